@@ -1,0 +1,4 @@
+pub mod Kind
+pub mod Residues
+pub mod Kinds
+pub mod Parcels
