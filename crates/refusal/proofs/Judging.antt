@@ -1,7 +1,7 @@
 -- What an answer says of the rules that it was judged by. Assumes nothing.
-use mathlib.Core.Path.{_≡_, refl, _∙_}
+use mathlib.Core.Path.{_≡_, refl, sym, _∙_}
 use mathlib.Core.Bool.{true, false, cond}
-use mathlib.Core.List.{[], _∷_}
+use mathlib.Core.List.{[], _∷_, _++_}
 use mathlib.Core.Logic.{_↔_}
 use Prim.Native.Nat.{ℕ}
 use native.Mathlib.Omega.{arith}
@@ -28,6 +28,12 @@ module _ {R : Type 0} where
       (elim (rule .0) as (λ t. cond t (Some (rule .1)) (first rest) ≡ None → cond t (Err (rule .1)) (judged rest x) ≡ Ok x)
       [ true ↦ λ q. absurd (some-none q) | false ↦ λ q. judged-passed rest x q ]) p
 
+  pub judged-refused : (rules : Rules) (x : R) {e : Refusal} → first rules ≡ Some e → judged rules x ≡ Err e
+  judged-refused [] x p = absurd (some-none (sym p))
+  judged-refused (rule ∷ rest) x {e} p =
+      (elim (rule .0) as (λ t. cond t (Some (rule .1)) (first rest) ≡ Some e → cond t (Err (rule .1)) (judged rest x) ≡ Err e)
+      [ true ↦ λ q. cc | false ↦ λ q. judged-refused rest x q ]) p
+
   pub answered : (r : Result R Refusal) → (isOk r ≡ true) ↔ (refusal r ≡ None)
   answered (Ok x) = (λ p. refl, λ p. refl)
   answered (Err e) = (λ p. absurd (false≢true p), λ p. absurd (some-none p))
@@ -46,3 +52,16 @@ clear (rule ∷ rest) p =
 pub unrefused : (rules : Rules) → Clear rules → first rules ≡ None
 unrefused [] p = refl
 unrefused (rule ∷ rest) p = cond-false (rule .0) (Some (rule .1)) (first rest) (p .0) ∙ unrefused rest (p .1)
+
+-- Rules after others count where none of those applies.
+pub first-stays : (rules more : Rules) {e : Refusal} → first rules ≡ Some e → first (rules ++ more) ≡ Some e
+first-stays [] more p = absurd (some-none (sym p))
+first-stays (rule ∷ rest) more {e} p =
+    (elim (rule .0) as (λ t. cond t (Some (rule .1)) (first rest) ≡ Some e → cond t (Some (rule .1)) (first (rest ++ more)) ≡ Some e)
+    [ true ↦ λ q. q | false ↦ λ q. first-stays rest more q ]) p
+
+pub first-passes : (rules more : Rules) → first rules ≡ None → first (rules ++ more) ≡ first more
+first-passes [] more p = refl
+first-passes (rule ∷ rest) more p =
+    (elim (rule .0) as (λ t. cond t (Some (rule .1)) (first rest) ≡ None → cond t (Some (rule .1)) (first (rest ++ more)) ≡ first more)
+    [ true ↦ λ q. absurd (some-none q) | false ↦ λ q. first-passes rest more q ]) p

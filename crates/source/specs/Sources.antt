@@ -1,7 +1,8 @@
 -- Which keys a source has. Assumes nothing.
 use mathlib.Core.Path.{_≡_}
-use mathlib.Core.Bool.{Bool, true, not}
+use mathlib.Core.Bool.{Bool, true, cond, not}
 use Prim.Native.Nat.{ℕ}
+use lib.Dec.{eqb}
 use Rattle.std.specs.Options.{isSome}
 use Rattle.std.specs.declared.option.Option.{Option}
 use Rattle.std.specs.declared.option.Option.the-variants.{Some, None}
@@ -25,6 +26,10 @@ or-zero k None = k .zero
 
 abbrev pub key : {G V : Type 0} → Kind G V → Keys G → ℕ → G
 key k source i = or-zero k (source i)
+
+-- Two keys, at two numbers.
+abbrev pub two-keys : {G : Type 0} → ℕ → G → ℕ → G → Keys G
+two-keys from before to after i = cond (eqb i from) (Some before) (cond (eqb i to) (Some after) None)
 
 -- The keys of the two count as the same wherever both have one.
 abbrev pub Agree : {G V : Type 0} → Kind G V → Keys G → Keys G → Type 0
