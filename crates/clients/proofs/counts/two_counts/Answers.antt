@@ -11,5 +11,6 @@ returns c =
     record {
       answered = listed counts (c .args .keys .now) (length (c .args .cells .now)) done;
       figure = λ v is. omega (arith, ap (λ r. r .0) (done .figure v is));
+      refuses = done .refuses;
       memory = c .two-flat .ensures .memory;
     }

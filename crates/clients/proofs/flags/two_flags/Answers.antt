@@ -9,5 +9,6 @@ returns c =
     record {
       answered = listed flags (c .args .keys .now) (length (c .args .cells .now)) done;
       figure = done .figure;
+      refuses = done .refuses;
       memory = c .two-flat .ensures .memory;
     }

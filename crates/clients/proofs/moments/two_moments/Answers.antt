@@ -13,5 +13,6 @@ returns c =
       count = λ v is. omega (arith, ap (λ r. r .first .0) (done .figure v is));
       sum = λ v is. omega (arith, ap (λ r. r .second .0) (done .figure v is));
       squares = λ v is. omega (arith, ap (λ r. r .third .0) (done .figure v is));
+      refuses = done .refuses;
       memory = c .two-flat .ensures .memory;
     }
