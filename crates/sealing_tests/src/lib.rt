@@ -101,9 +101,10 @@ mod tests {
         let keys = [count(1)];
         let none = Running::new(KeyList { keys: &keys[0..0] });
         let one = Running::new(KeyList { keys: &keys });
+        let mut spare = [count(0); 1];
+        let mut full = FlatStore::new(&mut spare[0..0]);
+        check_eq(number(none.append(&mut full, count(1))), 31)?;
         let mut cells = [count(0); 1];
-        let mut store = FlatStore::new(&mut cells[0..0]);
-        check_eq(number(none.append(&mut store, count(1))), 31)?;
         let mut store = FlatStore::new(&mut cells);
         check_eq(number(none.append(&mut store, count(1))), 33)?;
         check_eq(number(one.append(&mut store, count(1))), 34)?;
