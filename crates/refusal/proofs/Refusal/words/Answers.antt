@@ -1,4 +1,4 @@
--- In each arm the text is the sentence of that case.
+-- In each arm the text is the sentence of that case; the search finds it for the shortest.
 use mathlib.Core.Path.{ap, sym}
 use Rattle.refusal.specs.Words.{sentence}
 use Rattle.refusal.proofs.Refusal.words.Needs as need
@@ -14,12 +14,6 @@ returns-in-SpanPastEnd c = sym (ap sentence (c .in-SpanPastEnd .is))
 
 pub returns-in-SpanNotAbove : need.returns-in-SpanNotAbove
 returns-in-SpanNotAbove c = sym (ap sentence (c .in-SpanNotAbove .is))
-
-pub returns-in-NoSpans : need.returns-in-NoSpans
-returns-in-NoSpans c = sym (ap sentence (c .in-NoSpans .is))
-
-pub returns-in-TooManySpans : need.returns-in-TooManySpans
-returns-in-TooManySpans c = sym (ap sentence (c .in-TooManySpans .is))
 
 pub returns-in-TooManyRows : need.returns-in-TooManyRows
 returns-in-TooManyRows c = sym (ap sentence (c .in-TooManyRows .is))
