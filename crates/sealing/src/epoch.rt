@@ -11,6 +11,13 @@ use refusal::Refusal;
 use source::KeySource;
 use store::Store;
 
+// The ciphertext of a line between two keys.
+fn sealed<G: Group>(line: G, before: G, after: G) -> G
+    ensures { λ r. ⌜ r ≡ G·Group .kind .plus (G·Group .kind .plus line before) (G·Group .kind .minus after) ⌝ }
+{
+    line.add(before).add(after.negate())
+}
+
 // Takes lines.
 #[derive(Drop)]
 pub struct Running<K> {
@@ -58,7 +65,7 @@ impl<K> Running<K> {
         let Some(after) = self.source.key(n as u64 + 1) else {
             return Err(Refusal::NoKeyAfter);
         };
-        store.put(line.add(before).add(after.negate()))?;
+        store.put(sealed(line, before, after))?;
         Ok(n)
     }
 

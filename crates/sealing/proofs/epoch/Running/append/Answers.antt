@@ -64,9 +64,7 @@ returns g c =
     let y = c .in-Some-key .after in
     let has : owner (length (before .entries)) ≡ Some x = ap owner (sym here) ∙ sym (c .key .ensures) ∙ c .in-Some .is in
     let next : owner (length (before .entries) + 1) ≡ Some y = ap (λ n. owner (n + 1)) (sym here) ∙ sym (c .key-2 .ensures) ∙ c .in-Some-key .is in
-    let sealed : c .add-2 .result ≡ seal k owner (length (before .entries)) line =
-    let figure : c .add-2 .result ≡ k .plus (k .plus line x) (k .minus y) = cc in
-    figure ∙ seal-is k owner before line x y has next in
+    let sealed : c .sealed .result ≡ seal k owner (length (before .entries)) line = c .sealed .ensures ∙ seal-is k owner before line x y has next in
     let leaves : after ≡ push before (seal k owner (length (before .entries)) line) = c .in-Continue-put .ensures tt .leaves ∙ ap (push before) sealed in
     let done = append-done k owner before line after free has next leaves in
     let does = subst (λ n. Appends k owner before line (Ok n) after) (sym here) done in

@@ -1,0 +1,2 @@
+pub mod Twice
+pub mod Opened
