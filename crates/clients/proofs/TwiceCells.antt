@@ -64,6 +64,12 @@ module _ {G V S : Type 0} (k : Kind G V) (contents : S → Contents G) (cells : 
       second-cells = more ∙ ap (λ i. written middle (seal k keys i y)) one ∙ ap (λ r. left-by r (cells middle) (written middle (seal k keys 1 y))) (sym two);
     }
 
+  -- Without a place nothing is written.
+  pub cells-full : (after : S) → contents before .capacity ≡ 0 → CellsOfTwo k contents cells written keys x y before after → cells after ≡ cells before
+  cells-full after full d =
+      d .second-cells ∙ ap (λ n. left-by (second-answer keys n) (cells (d .middle)) (written (d .middle) (seal k keys 1 y))) full
+      ∙ d .first-cells ∙ ap (λ n. left-by (first-answer keys n) (cells before) (written before (seal k keys 0 x))) full
+
 -- In a flat store each accepted ciphertext is in the cell of its number.
 module _ {G V : Type 0} (k : Kind G V) (keys : Keys G) (x y : G) (before after : FlatStore G) (new : flat before .entries ≡ []) where
   abbrev room : ℕ

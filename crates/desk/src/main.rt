@@ -1,6 +1,9 @@
-// The desk: one week of lines, sealed and opened, from beginning to end.
+// The desk: lines at each kind, sealed and opened, from beginning to end.
+mod granted;
 mod refused;
+mod saying;
 mod week;
+mod weekly;
 
 use std::error::AnyError;
 
@@ -8,6 +11,8 @@ fn run(rt: &LibcRuntime) -> Result<(), AnyError> {
     week::counts(rt)?;
     week::flags(rt)?;
     week::parcels(rt)?;
+    weekly::weeks(rt)?;
+    granted::panels(rt)?;
     refused::all(rt)
 }
 

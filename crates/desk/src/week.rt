@@ -1,4 +1,5 @@
 // A week at each kind: lines are sealed, and sums are opened by the owner and by a reader with two keys.
+use crate::saying::say_opened;
 use figure_text::CountText;
 use figure_text::FlagsText;
 use figure_text::MomentsText;
@@ -10,7 +11,6 @@ use group::FlagsGroup;
 use group::Group;
 use group::Moments;
 use group::MomentsGroup;
-use refusal::Refusal;
 use sealing::Running;
 use sealing::is_double;
 use sealing::open;
@@ -23,58 +23,53 @@ use std::error::AnyError;
 use store::FlatPlaces;
 use store::FlatStore;
 use store::Store;
-
-// Says what an open of lines a up to b answered.
-fn say_opened<G: Printed>(
-    rt: &LibcRuntime,
-    who: &str,
-    a: usize,
-    b: usize,
-    answer: Result<G, Refusal>,
-) -> Result<(), AnyError> {
-    match answer {
-        Ok(sum) => {
-            let text = sum.text(rt.alloc())?;
-            println!(rt, "{who} opens {a} up to {b}: {text}")?;
-        }
-        Err(e) => {
-            let number = e.number();
-            let words = e.words();
-            println!(rt, "{who} is refused {a} up to {b} ({number}): {words}")?;
-        }
-    }
-    Ok(())
-}
+use tree_store::Plan;
+use tree_store::TreePlaces;
+use tree_store::TreeStore;
 
 // Seals the lines under the keys, and opens the whole, a part and nothing; the reader has the two keys at the ends.
-fn play<G: Printed>(
+fn play<G: Printed, S: Store<G>>(
     rt: &LibcRuntime,
+    store: &mut S,
     keys: &[G; 8],
     lines: &[G; 7],
-    cells: &mut [G; 7],
 ) -> Result<(), AnyError> {
-    let mut store = FlatStore::new(cells);
     let epoch = Running::new(KeyList { keys });
     for line in lines {
         let text = line.text(rt.alloc())?;
-        match epoch.append(&mut store, *line) {
+        match epoch.append(store, *line) {
             Ok(n) => println!(rt, "line {n} is accepted: {text}")?,
             Err(e) => rt.println(e.words())?,
         }
     }
     let epoch = epoch.close();
-    let owner = epoch.keys();
     let reader = KeyPair {
         from: 0,
         before: keys[0],
         to: 7,
         after: keys[7],
     };
-    say_opened(rt, "the owner", 0, 7, open(&store, owner, 0, 7))?;
-    say_opened(rt, "the owner", 2, 5, open(&store, owner, 2, 5))?;
-    say_opened(rt, "the owner", 4, 4, open(&store, owner, 4, 4))?;
-    say_opened(rt, "the reader", 0, 7, open(&store, &reader, 0, 7))?;
-    say_opened(rt, "the reader", 0, 5, open(&store, &reader, 0, 5))
+    say_opened(rt, "the owner", 0, 7, open(store, epoch.keys(), 0, 7))?;
+    say_opened(rt, "the owner", 2, 5, open(store, epoch.keys(), 2, 5))?;
+    say_opened(rt, "the owner", 4, 4, open(store, epoch.keys(), 4, 4))?;
+    say_opened(rt, "the reader", 0, 7, open(store, &reader, 0, 7))?;
+    say_opened(rt, "the reader", 0, 5, open(store, &reader, 0, 5))
+}
+
+// The week in a flat store, and once more in a tree that keeps sums of two.
+fn both_stores<G: Printed>(
+    rt: &LibcRuntime,
+    keys: &[G; 8],
+    lines: &[G; 7],
+) -> Result<(), AnyError> {
+    let mut cells = [G::identity(); 14];
+    let Ok(plan) = Plan::new(2, 7, cells.len()) else {
+        return Err("no plan".into());
+    };
+    println!(rt, "in a flat store")?;
+    play(rt, &mut FlatStore::new(&mut cells[0..7]), keys, lines)?;
+    println!(rt, "in a tree store")?;
+    play(rt, &mut TreeStore::new(plan, &mut cells), keys, lines)
 }
 
 // Crates in the cold store: deliveries and draws.
@@ -111,7 +106,7 @@ pub fn counts(rt: &LibcRuntime) -> Result<(), AnyError> {
             figure.negate()
         };
     }
-    play(rt, &keys, &lines, &mut [Count { value: 0 }; 7])?;
+    both_stores(rt, &keys, &lines)?;
     compare(rt, &keys, &lines)
 }
 
@@ -161,7 +156,7 @@ pub fn flags(rt: &LibcRuntime) -> Result<(), AnyError> {
     for (i, bits) in switched.iter().enumerate() {
         lines[i] = Flags { bits: *bits };
     }
-    play(rt, &keys, &lines, &mut [Flags { bits: 0 }; 7])
+    both_stores(rt, &keys, &lines)
 }
 
 // Parcels over the scale: how many, what they weigh, and the squares for the spread.
@@ -179,5 +174,5 @@ pub fn parcels(rt: &LibcRuntime) -> Result<(), AnyError> {
             lines[i] = line;
         }
     }
-    play(rt, &keys, &lines, &mut [Moments::identity(); 7])
+    both_stores(rt, &keys, &lines)
 }

@@ -3,7 +3,8 @@ ghost use Rattle.group.specs.Kinds.{counts, word-count};
 ghost use Rattle.group.specs.Residues.{Residue};
 use crate::Group;
 
-// A number modulo 2^64; a change of -v is 2^64 - v.
+// A number modulo 2^64; a change of -v is 2^64 - v. It lies in memory as its one word does, so that other languages can lend cells.
+#[repr(C)]
 #[derive(Clone, Copy)]
 pub struct Count {
     pub value: u64,

@@ -1,0 +1,3 @@
+pub mod Bridge
+pub mod Mixing
+pub mod Schedule

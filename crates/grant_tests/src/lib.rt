@@ -1,0 +1,3 @@
+// Worked grants, each proved safe and run.
+#[cfg(test)]
+mod tests;

@@ -1,0 +1,10 @@
+pub mod Widths
+pub mod Climbs
+pub mod Above
+pub mod Cases
+pub mod Parts
+pub mod Places
+pub mod Rising
+pub mod Reading
+pub mod Standing
+pub mod Shapes

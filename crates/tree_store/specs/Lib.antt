@@ -1,0 +1,4 @@
+pub mod Levels
+pub mod Plans
+pub mod Cells
+pub mod Trees
