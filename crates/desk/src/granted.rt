@@ -28,7 +28,11 @@ use store::FlatPlaces;
 use store::FlatStore;
 
 // Seals seven equal lines with the keys of a tree under the cipher, and opens them through a grant.
-fn panel<G: Printed, C: Cipher>(rt: &LibcRuntime, line: G) -> Result<(), AnyError> {
+fn panel<G: Printed, C: Cipher>(
+    rt: &LibcRuntime,
+    line: G,
+    cells: &mut [G; 7],
+) -> Result<(), AnyError> {
     let root = Block {
         high: 0x0f1571c947d9e859,
         low: 0x0cb7add6af7f6798,
@@ -36,8 +40,7 @@ fn panel<G: Printed, C: Cipher>(rt: &LibcRuntime, line: G) -> Result<(), AnyErro
     let Ok(tree) = KeyTree::<C>::new(5, root) else {
         return Err("no tree".into());
     };
-    let mut cells = [G::identity(); 7];
-    let mut store = FlatStore::new(&mut cells);
+    let mut store = FlatStore::new(cells);
     let epoch = Running::new(tree);
     for _ in 0..7 {
         if let Err(e) = epoch.append(&mut store, line) {
@@ -71,10 +74,11 @@ fn panel<G: Printed, C: Cipher>(rt: &LibcRuntime, line: G) -> Result<(), AnyErro
 
 pub fn panels(rt: &LibcRuntime) -> Result<(), AnyError> {
     println!(rt, "grants, AES and crates")?;
-    panel::<Count, Aes128>(rt, Count { value: 6 })?;
+    let zero = Count { value: 0 };
+    panel::<Count, Aes128>(rt, Count { value: 6 }, &mut [zero; 7])?;
     println!(rt, "grants, Speck and a tally")?;
     let Ok(parcel) = Moments::parcel(1250) else {
         return Err("no parcel".into());
     };
-    panel::<Moments, Speck128>(rt, parcel)
+    panel::<Moments, Speck128>(rt, parcel, &mut [parcel; 7])
 }

@@ -61,15 +61,18 @@ fn both_stores<G: Printed>(
     rt: &LibcRuntime,
     keys: &[G; 8],
     lines: &[G; 7],
+    few: &mut [G; 7],
+    more: &mut [G; 14],
 ) -> Result<(), AnyError> {
-    let mut cells = [G::identity(); 14];
-    let Ok(plan) = Plan::new(2, 7, cells.len()) else {
+    println!(rt, "in a flat store")?;
+    let mut store = FlatStore::new(few);
+    play(rt, &mut store, keys, lines)?;
+    let Ok(plan) = Plan::new(2, 7, 14) else {
         return Err("no plan".into());
     };
-    println!(rt, "in a flat store")?;
-    play(rt, &mut FlatStore::new(&mut cells[0..7]), keys, lines)?;
     println!(rt, "in a tree store")?;
-    play(rt, &mut TreeStore::new(plan, &mut cells), keys, lines)
+    let mut store = TreeStore::new(plan, more);
+    play(rt, &mut store, keys, lines)
 }
 
 // Crates in the cold store: deliveries and draws.
@@ -106,7 +109,8 @@ pub fn counts(rt: &LibcRuntime) -> Result<(), AnyError> {
             figure.negate()
         };
     }
-    both_stores(rt, &keys, &lines)?;
+    let zero = Count { value: 0 };
+    both_stores(rt, &keys, &lines, &mut [zero; 7], &mut [zero; 14])?;
     compare(rt, &keys, &lines)
 }
 
@@ -156,7 +160,8 @@ pub fn flags(rt: &LibcRuntime) -> Result<(), AnyError> {
     for (i, bits) in switched.iter().enumerate() {
         lines[i] = Flags { bits: *bits };
     }
-    both_stores(rt, &keys, &lines)
+    let zero = Flags { bits: 0 };
+    both_stores(rt, &keys, &lines, &mut [zero; 7], &mut [zero; 14])
 }
 
 // Parcels over the scale: how many, what they weigh, and the squares for the spread.
@@ -174,5 +179,6 @@ pub fn parcels(rt: &LibcRuntime) -> Result<(), AnyError> {
             lines[i] = line;
         }
     }
-    both_stores(rt, &keys, &lines)
+    let zero = Moments::identity();
+    both_stores(rt, &keys, &lines, &mut [zero; 7], &mut [zero; 14])
 }

@@ -10,12 +10,12 @@ use layers::post;
 use sealing::Running;
 use sealing::open;
 use source::KeyList;
+use source::KeySource;
 use source::ListedKeys;
 use std::error::AnyError;
 use store::FlatPlaces;
 use store::FlatStore;
-
-const DAYS: usize = 14;
+use store::Store;
 
 pub fn weeks(rt: &LibcRuntime) -> Result<(), AnyError> {
     println!(rt, "weeks")?;
@@ -30,42 +30,45 @@ pub fn weeks(rt: &LibcRuntime) -> Result<(), AnyError> {
         Count { value: 5003 },
         Count { value: 90 },
     ];
-    let mut cells = [Count { value: 0 }; DAYS];
-    let mut store = FlatStore::new(&mut cells);
-    let epoch = Running::new(KeyList { keys: &daily });
+    play(rt, &daily, &weekly)
+}
+
+// Seals two weeks, each line being the number of its day.
+fn seal_days<S: Store<Count>, K: KeySource<Count>>(
+    rt: &LibcRuntime,
+    epoch: &Running<K>,
+    store: &mut S,
+) -> Result<(), AnyError> {
     for day in 1..15u64 {
-        if let Err(e) = epoch.append(&mut store, Count { value: day }) {
+        if let Err(e) = epoch.append(store, Count { value: day }) {
             rt.println(e.words())?;
         }
     }
-    let hiding = KeyList { keys: &weekly };
+    Ok(())
+}
+
+// Posts an envelope for the first day of each week, and one too many.
+fn post_weeks<S: Store<Count>, F: KeySource<Count>, O: KeySource<Count>>(
+    rt: &LibcRuntime,
+    envelopes: &mut S,
+    fine: &F,
+    other: &O,
+) -> Result<(), AnyError> {
+    for _ in 0..4 {
+        say_answer(rt, "an envelope", post(7, envelopes, fine, other))?;
+    }
+    Ok(())
+}
+
+fn play(rt: &LibcRuntime, daily: &[Count; 15], weekly: &[Count; 3]) -> Result<(), AnyError> {
+    let mut cells = [Count { value: 0 }; 14];
+    let mut store = FlatStore::new(&mut cells);
+    let epoch = Running::new(KeyList { keys: daily });
+    seal_days(rt, &epoch, &mut store)?;
+    let hiding = KeyList { keys: weekly };
     let mut paper = [Count { value: 0 }; 3];
     let mut envelopes = FlatStore::new(&mut paper);
-    say_answer(
-        rt,
-        "envelope 0",
-        post(7, &mut envelopes, epoch.keys(), &hiding),
-    )?;
-    say_answer(
-        rt,
-        "envelope 1",
-        post(7, &mut envelopes, epoch.keys(), &hiding),
-    )?;
-    say_answer(
-        rt,
-        "envelope 2",
-        post(7, &mut envelopes, epoch.keys(), &hiding),
-    )?;
-    say_answer(
-        rt,
-        "envelope 3",
-        post(7, &mut envelopes, epoch.keys(), &hiding),
-    )?;
-    say_answer(
-        rt,
-        "a step of 0",
-        post(0, &mut envelopes, epoch.keys(), &hiding),
-    )?;
+    post_weeks(rt, &mut envelopes, epoch.keys(), &hiding)?;
     let reader = Coarse {
         step: 7,
         envelopes: &envelopes,
