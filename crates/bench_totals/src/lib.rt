@@ -1,4 +1,6 @@
 // Totals over stores, again and again, for a benchmark to time from C.
+#![tactic(auto)]
+
 ghost use Rattle.std.specs.Prelude.{◌≡◌, ◌%◌, ◌^◌, min, length, take};
 ghost use Rattle.tree_clients.specs.Puts.{filled};
 ghost use Rattle.bench_totals.specs.Rounds.{span_sum, rounds_sum, planned_sum};

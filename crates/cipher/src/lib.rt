@@ -1,4 +1,6 @@
 // Block ciphers with keys and blocks of 128 bits, each proved to be the function that its document defines.
+#![tactic(auto)]
+
 ghost use Rattle.std.specs.Prelude.{◌≡◌, length};
 ghost use Rattle.cipher.specs.Aes.{aes};
 ghost use Rattle.cipher.specs.Figures.{FiguresStand, figures};

@@ -1,4 +1,6 @@
 // The ciphers for callers in C. `Block` crosses by value, as two words of 64 bits.
+#![tactic(auto)]
+
 ghost use Rattle.std.specs.Prelude.{◌≡◌};
 ghost use Rattle.cipher.specs.Aes.{aes};
 ghost use Rattle.cipher.specs.Speck.{speck};

@@ -1,5 +1,7 @@
 // The published figures, run on the compiled code: through each cipher's own call, and through code that is generic in the
 // cipher. They stand apart from the library, since a crate with tests is proved twice.
+#![tactic(auto)]
+
 ghost use Rattle.std.specs.Prelude.{◌≡◌};
 
 use cipher::{Block, Cipher};

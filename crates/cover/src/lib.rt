@@ -1,4 +1,6 @@
 // The nodes of a key tree, and which of them cover a set of keys.
+#![tactic(auto)]
+
 mod cutting;
 mod listing;
 mod next;

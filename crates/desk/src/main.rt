@@ -1,4 +1,5 @@
 // The desk: lines at each kind, sealed and opened, from beginning to end.
+#![tactic(auto)]
 
 mod granted;
 mod refused;

@@ -1,4 +1,6 @@
 // How figures are printed.
+#![tactic(auto)]
+
 ghost use Rattle.std.specs.Prelude.{◌≡◌, ℕ, List, IfOk, string_bytes};
 ghost use Rattle.figure_text.specs.Figures.{count_text, flags_text, moments_text};
 

@@ -1,4 +1,6 @@
 // Key trees, and grants of some of their keys.
+#![tactic(auto)]
+
 mod descent;
 mod grant;
 mod key_tree;

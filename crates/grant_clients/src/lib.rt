@@ -1,4 +1,6 @@
 // Sums of lines that were sealed with a key tree, opened by whoever has a grant of some of its keys.
+#![tactic(auto)]
+
 ghost use Rattle.grant_clients.specs.Sharing.{Shared};
 
 use cipher::Cipher;

@@ -1,3 +1,5 @@
 // Worked grants, each proved safe and run.
+#![tactic(auto)]
+
 #[cfg(test)]
 mod tests;

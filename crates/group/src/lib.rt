@@ -1,4 +1,6 @@
 // Kinds of figures that add up: commutative groups, and the sum of a stretch of cells.
+#![tactic(auto)]
+
 ghost use Rattle.std.specs.Prelude.{◌≡◌, ℕ, ◌≤◌, true, List, take};
 ghost use Rattle.group.specs.Kind.{Kind};
 

@@ -1,4 +1,6 @@
 // What a program may rely on that reads through joint and coarse sources.
+#![tactic(auto)]
+
 ghost use Rattle.std.specs.Prelude.{◌≡◌, ◌≤◌, true, ◌↔◌, length, is_some, Some};
 ghost use Rattle.source.specs.Sources.{Has, key};
 ghost use Rattle.sealing.specs.Calls.{Opens};

@@ -1,4 +1,6 @@
 // Worked cases of joint and coarse sources, run.
+#![tactic(auto)]
+
 ghost use Rattle.std.specs.Prelude.{◌≡◌, min, length};
 ghost use Rattle.refusal.specs.Judged.{judged};
 ghost use Rattle.store.specs.Contents.{nth};

@@ -1,4 +1,6 @@
 // Key sources that stand on others, and the envelopes between them.
+#![tactic(auto)]
+
 mod coarse;
 mod joint;
 mod lent;

@@ -1,4 +1,6 @@
 // Why calls refuse: one enum for the whole library, with a number and a sentence for each case.
+#![tactic(auto)]
+
 ghost use Rattle.std.specs.Prelude.{◌≡◌};
 ghost use Rattle.refusal.specs.Numbers.{code};
 ghost use Rattle.refusal.specs.Words.{sentence};

@@ -1,4 +1,6 @@
 // The worked figures of sealing, run: counts, flags, parcels, refusals in their order, and doubles.
+#![tactic(auto)]
+
 #[cfg(test)]
 mod tests {
     use clients::{two_counts, two_flags, two_moments};

@@ -1,4 +1,6 @@
 // Where keys come from.
+#![tactic(auto)]
+
 ghost use Rattle.std.specs.Prelude.{◌≡◌};
 ghost use Rattle.source.specs.Sources.{Keys};
 

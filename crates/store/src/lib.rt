@@ -1,4 +1,6 @@
 // Where ciphertexts go.
+#![tactic(auto)]
+
 ghost use Rattle.std.specs.Borrow.{GName};
 ghost use Rattle.std.specs.Prelude.{◌≡◌, ◌≤◌, false, List, length, is_ok, Ok};
 ghost use Rattle.refusal.specs.Judged.{judged, first, refusal, left_by};

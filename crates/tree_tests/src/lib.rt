@@ -1,4 +1,6 @@
 // Tree stores at work: plans, what cells hold, refusals, all three kinds of figures.
+#![tactic(auto)]
+
 #[cfg(test)]
 mod tests {
     use group::{Count, Flags, Moments};

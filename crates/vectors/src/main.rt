@@ -1,5 +1,7 @@
 // Runs the test vectors of both ciphers and prints, for each cipher, how many lines agree, how many differ and how many are
 // not in form. A line of the output changes with any of these numbers.
+#![tactic(auto)]
+
 use cipher::Cipher;
 use lines::{Tally, tally_of};
 use std::fs;
