@@ -1,5 +1,5 @@
 -- The three kinds: numbers modulo 2^64, 64 bits, and three numbers modulo 2^64. Assumes nothing.
-use Rattle.std.specs.Prelude.{◌≡◌, ℕ, ◌+◌, ◌-◌, ◌%◌, ◌^◌, List, bit-xor, slice_index, refl}
+use Rattle.std.specs.Prelude.{◌≡◌, ℕ, ◌+◌, ◌-◌, ◌%◌, ◌^◌, List, bit_xor, slice_index, refl}
 use Rattle.std.proofs.Common.{arith}
 use Rattle.std.specs.Int.Bits.{xor_assoc, xor_self}
 use Rattle.std.proofs.lemmas.Nat.{xor_comm}
@@ -33,7 +33,7 @@ counts = record {
 abbrev pub bits : Abelian ℕ
 bits = record {
   zero = 0;
-  plus = bitXor;
+  plus = bit_xor;
   minus = λ x. x;
   assoc = xor_assoc;
   comm = xor_comm;
@@ -46,7 +46,7 @@ flags = record {
   value = λ x. x.bits;
   sums = bits;
   zero = record { bits = 0 };
-  plus = λ x y. record { bits = bit-xor x.bits y.bits };
+  plus = λ x y. record { bits = bit_xor x.bits y.bits };
   minus = λ x. x;
   zero_counts = refl;
   plus_counts = λ x y. refl;

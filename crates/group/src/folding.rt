@@ -6,7 +6,7 @@ use crate::Group;
 
 // The figures of the slice, added up. No figures add up to zero.
 pub fn fold<G: Group>(figures: &[G]) -> G
-    ensures { kind.value result ≡ sum kind figures.now }
+    ensures { G.kind.value result ≡ sum G.kind figures.now }
 {
     let mut total = G::identity();
     for figure in figures {

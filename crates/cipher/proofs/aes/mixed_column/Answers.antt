@@ -13,13 +13,13 @@ returns c =
     let s2 = c.spread-2.result in
     let s3 = c.spread-3.result in
     let s4 = c.spread-4.result in
-    let back = c.rotate-right-2.ensures in
-    let front = c.rotate-right.ensures in
-    let whole = c.rotate-right-3.ensures ∙ ap (λ (n : ℕ). right16 (bit_xor s3 n)) back in
-    let small : bit_xor s3 c.rotate-right-2.result < 2 ^ 32 = xor_lt 32 s3 c.rotate-right-2.result (omega arith) (omega arith) in
+    let back = c.rotate_right-2.ensures in
+    let front = c.rotate_right.ensures in
+    let whole = c.rotate_right-3.ensures ∙ ap (λ (n : ℕ). right16 (bit_xor s3 n)) back in
+    let small : bit_xor s3 c.rotate_right-2.result < 2 ^ 32 = xor_lt 32 s3 c.rotate_right-2.result (omega arith) (omega arith) in
     ap column (ap₂ (λ (m n : ℕ). bit_xor (bit_xor s1 m) n) front whole)
     ∙ mixing s1 s2 s3 s4 _ _ _ _ (omega arith) (omega arith) (rw back at small)
-    (c.spread.ensures ∙ ap (λ (l : List ℕ). spread_of (get_or l 0 0)) c.to-be-bytes.ensures)
-    (c.spread-2.ensures ∙ ap (λ (l : List ℕ). spread_of (get_or l 1 0)) c.to-be-bytes-2.ensures)
-    (c.spread-3.ensures ∙ ap (λ (l : List ℕ). spread_of (get_or l 2 0)) c.to-be-bytes-3.ensures)
+    (c.spread.ensures ∙ ap (λ (l : List ℕ). spread_of (get_or l 0 0)) c.to_be_bytes.ensures)
+    (c.spread-2.ensures ∙ ap (λ (l : List ℕ). spread_of (get_or l 1 0)) c.to_be_bytes-2.ensures)
+    (c.spread-3.ensures ∙ ap (λ (l : List ℕ). spread_of (get_or l 2 0)) c.to_be_bytes-3.ensures)
     (c.spread-4.ensures ∙ ap (λ (l : List ℕ). spread_of (get_or l 3 0)) c.to-be-bytes-4.ensures)

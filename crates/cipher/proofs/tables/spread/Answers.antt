@@ -10,6 +10,6 @@ pub returns : goal.returns
 unfolding column sbox spread_of
 returns c =
     let x = c.args.x in
-    sym (get_or-map bytes_of c.spread-entries.result.now x 0)
-    ∙ ap (λ (l : List Column). get_or l x (bytes_of 0)) c.spread-entries.ensures
+    sym (get_or-map bytes_of c.spread_entries.result.now x 0)
+    ∙ ap (λ (l : List Column). get_or l x (bytes_of 0)) c.spread_entries.ensures
     ∙ get_or-map-range_with_len (λ y. spread_byte (sbox_rule y)) 0 256 x x (bytes_of 0) (omega arith) (omega arith)
