@@ -4,14 +4,13 @@ use mathlib.Core.List.{Memᴰ}
 use lib.Pow.{pow-lt}
 use Rattle.std.proofs.lemmas.Nat.{mul-le}
 use Rattle.std.specs.List.{list_all}
-use Rattle.std.specs.Map.Invariant.{is-distinct}
 use Rattle.std.proofs.lemmas.Bool.{cases_lt, cases_Bool, leb-true, le-leb, ltb-true, lt-ltb, ltb-false, le-ltb, both_ways, and_parts, and_from, not_from_true, not_from_false, not-true, not-false}
 use Rattle.refusal.specs.Judged.{first}
 use Rattle.refusal.specs.Judged.{Rules}
 use Rattle.refusal.proofs.Judging.{Clear, clear, unrefused, first_passes}
 use Rattle.std.proofs.lemmas.List.{append_assoc, append-nil}
 use Rattle.cover.specs.declared.node.Node.{Node}
-use Rattle.cover.specs.Tree.{first_key, past, Rising, halves, neighbours, rising, sound}
+use Rattle.cover.specs.Tree.{first_key, past, Rising, halves, neighbours, rising, is_distinct, sound}
 use Rattle.cover.specs.Next.{in_tree, next_rules, list_rules, last_of, PassingIsSound}
 use Rattle.cover.proofs.Geometry.{first_past}
 use Rattle.cover.proofs.Sound.{rising-from, to_rising, neighbours-sound, sound-cover}
@@ -73,21 +72,21 @@ module _ (height : ℕ) where
       let rest = pass_after n ns (tree-past height n (not-false (in_tree height n) c.0)) c.1 in
       neighbours-sound height (n ∷ ns) (to_rising 0 (2 ^ height) (n ∷ ns) (omega arith, rest.0)) rest.1
 
-  back-after : (m : Node) (ns : List Node) → ((n : Node) → Memᴰ n ns → in_tree height n ≡ true) → Rising (past m) (2 ^ height) ns → is-distinct halves (m ∷ ns) ≡ true → Clear (list_rules height (Some m) ns)
+  back-after : (m : Node) (ns : List Node) → ((n : Node) → Memᴰ n ns → in_tree height n ≡ true) → Rising (past m) (2 ^ height) ns → is_distinct halves (m ∷ ns) ≡ true → Clear (list_rules height (Some m) ns)
   back-after m [] t r d = tt
   back-after m (n ∷ ns) t r d =
-      let each = and_parts (list_all (λ y. not (halves m y)) (n ∷ ns)) (is-distinct halves (n ∷ ns)) d in
+      let each = and_parts (list_all (λ y. not (halves m y)) (n ∷ ns)) (is_distinct halves (n ∷ ns)) d in
       let here = and_parts (not (halves m n)) (list_all (λ y. not (halves m y)) ns) each.0 in
       (not_from_true (in_tree height n) (t n (Memᴰ.head refl)), (le-ltb (first_key n) (past m) r.0, (not-true (halves m n) here.0, back-after n ns (λ k p. t k (Memᴰ.tail p)) r.1 each.1)))
 
-  back : (ns : List Node) → ((n : Node) → Memᴰ n ns → in_tree height n ≡ true) → Rising 0 (2 ^ height) ns → is-distinct halves ns ≡ true → Clear (list_rules height None ns)
+  back : (ns : List Node) → ((n : Node) → Memᴰ n ns → in_tree height n ≡ true) → Rising 0 (2 ^ height) ns → is_distinct halves ns ≡ true → Clear (list_rules height None ns)
   back [] t r d = tt
   back (n ∷ ns) t r d = (not_from_true (in_tree height n) (t n (Memᴰ.head refl)), back-after n ns (λ k p. t k (Memᴰ.tail p)) r.1 d)
 
   pub sound-passes : (ns : List Node) → sound height ns ≡ true → Clear (list_rules height None ns)
   sound-passes ns e =
       let c = sound-cover height ns e in
-      let h = and_parts (rising 0 (2 ^ height) ns) (is-distinct halves ns) e in
+      let h = and_parts (rising 0 (2 ^ height) ns) (is_distinct halves ns) e in
       back ns (λ n m. past-tree height n (c.row n m).low (c.row n m).inside) (rising-from 0 (2 ^ height) ns h.0) h.1
 
 pub passing_is_sound : PassingIsSound

@@ -3,10 +3,9 @@ use Rattle.std.proofs.Common.{◌≡◌, ℕ, zero, suc, ◌+◌, ◌-◌, ◌*�
 use mathlib.Core.List.Memᴰ
 use mathlib.Core.List.{Memᴰ}
 use Rattle.std.specs.List.{list_all}
-use Rattle.std.specs.Map.Invariant.{is-distinct}
 use Rattle.std.proofs.lemmas.Bool.{cases_Bool, cases_lt, both_ways, leb-true, le-leb, eq-eqb, eqb-true, and_parts, and_from, not-true, not_from_false}
 use Rattle.cover.specs.declared.node.Node.{Node}
-use Rattle.cover.specs.Tree.{first_key, past, parent, KeySet, Whole, RowOf, Rising, Cover, held, rising, halves, sound, neighbours}
+use Rattle.cover.specs.Tree.{first_key, past, parent, KeySet, Whole, RowOf, Rising, Cover, held, rising, halves, is_distinct, sound, neighbours}
 use Rattle.cover.specs.Cut.{node}
 use Rattle.cover.proofs.Geometry.{pow-next, first_past}
 use Rattle.cover.proofs.Covers.{le-cancel}
@@ -32,20 +31,20 @@ to_pass p [] f = refl
 to_pass p (y ∷ xs) f = and_from (p y) (list_all p xs) (f y (Memᴰ.head refl)) (to_pass p xs (λ x m. f x (Memᴰ.tail m)))
 
 -- of two members one comes first, or they are one
-apart_from : (ns : List Node) (m n : Node) → is-distinct halves ns ≡ true → Memᴰ m ns → Memᴰ n ns → halves m n ≡ true → halves n m ≡ true → m ≡ n
+apart_from : (ns : List Node) (m n : Node) → is_distinct halves ns ≡ true → Memᴰ m ns → Memᴰ n ns → halves m n ≡ true → halves n m ≡ true → m ≡ n
 apart_from [] m n e p q h g = absurd (Memᴰ.not-nil p)
 apart_from (x ∷ ns) m n e p q h g = step (apart_from ns m n) (Memᴰ.cases_cons p) (Memᴰ.cases_cons q)
   where
-    each : (list_all (λ y. not (halves x y)) ns ≡ true) × (is-distinct halves ns ≡ true)
-    each = and_parts (list_all (λ y. not (halves x y)) ns) (is-distinct halves ns) e
+    each : (list_all (λ y. not (halves x y)) ns ≡ true) × (is_distinct halves ns ≡ true)
+    each = and_parts (list_all (λ y. not (halves x y)) ns) (is_distinct halves ns) e
 
-    step : (is-distinct halves ns ≡ true → Memᴰ m ns → Memᴰ n ns → halves m n ≡ true → halves n m ≡ true → m ≡ n) → (m ≡ x) ⊎ Memᴰ m ns → (n ≡ x) ⊎ Memᴰ n ns → m ≡ n
+    step : (is_distinct halves ns ≡ true → Memᴰ m ns → Memᴰ n ns → halves m n ≡ true → halves n m ≡ true → m ≡ n) → (m ≡ x) ⊎ Memᴰ m ns → (n ≡ x) ⊎ Memᴰ n ns → m ≡ n
     step below (inl a) (inl b) = a ∙ sym b
     step below (inl a) (inr b) = absurd (both_ways (halves x n) (not-true (halves x n) (passes (λ y. not (halves x y)) ns n each.0 b)) (subst (λ (z : Node). halves z n ≡ true) a h))
     step below (inr a) (inl b) = absurd (both_ways (halves x m) (not-true (halves x m) (passes (λ y. not (halves x y)) ns m each.0 a)) (subst (λ (z : Node). halves z m ≡ true) b g))
     step below (inr a) (inr b) = below each.1 a b h g
 
-no_halves : (ns : List Node) → is-distinct halves ns ≡ true → NoHalves ns
+no_halves : (ns : List Node) → is_distinct halves ns ≡ true → NoHalves ns
 no_halves ns e l j p q =
     let a = node l (2 * j) in
     let b = node l (2 * j + 1) in
@@ -55,7 +54,7 @@ no_halves ns e l j p q =
 -- Sound rows are the rows of the keys under them.
 pub sound-cover : (height : ℕ) (ns : List Node) → sound height ns ≡ true → Cover height (held ns) ns
 sound-cover height ns e =
-    let h = and_parts (rising 0 (2 ^ height) ns) (is-distinct halves ns) e in own-cover height ns (rising-from 0 (2 ^ height) ns h.0) (no_halves ns h.1)
+    let h = and_parts (rising 0 (2 ^ height) ns) (is_distinct halves ns) e in own-cover height ns (rising-from 0 (2 ^ height) ns h.0) (no_halves ns h.1)
 
 -- two rows of a set are not the halves of one node
 not-halves : (height : ℕ) (keys : KeySet) (x y : Node) → RowOf height keys x → RowOf height keys y → past x ≤ first_key y → halves x y ≡ true → ⊥
@@ -79,17 +78,17 @@ not-halves height keys x y r s up e =
     t (λ k a b. ⊎_elim (λ (q : k < past x). r.whole k (omega arith) q) (λ (q : past x ≤ k). s.whole k (omega arith) (omega arith)) (cases_lt k (past x))))
     r.top
 
-cover_distinct : (height : ℕ) (keys : KeySet) (a b : ℕ) (ns : List Node) → Rising a b ns → ((n : Node) → Memᴰ n ns → RowOf height keys n) → is-distinct halves ns ≡ true
+cover_distinct : (height : ℕ) (keys : KeySet) (a b : ℕ) (ns : List Node) → Rising a b ns → ((n : Node) → Memᴰ n ns → RowOf height keys n) → is_distinct halves ns ≡ true
 cover_distinct height keys a b [] r f = refl
 cover_distinct height keys a b (x ∷ ns) r f =
-    and_from (list_all (λ y. not (halves x y)) ns) (is-distinct halves ns)
+    and_from (list_all (λ y. not (halves x y)) ns) (is_distinct halves ns)
     (to_pass (λ y. not (halves x y)) ns (λ y m. ⊎_elim (λ (e : halves x y ≡ true). absurd (not-halves height keys x y (f x (Memᴰ.head refl)) (f y (Memᴰ.tail m)) (rising_member (past x) b ns y r.1 m).0 e)) (λ (e : halves x y ≡ false). not_from_false (halves x y) e) (cases_Bool (halves x y))))
     (cover_distinct height keys (past x) b ns r.1 (λ n m. f n (Memᴰ.tail m)))
 
 -- The rows of a set are sound.
 pub cover-sound : (height : ℕ) (keys : KeySet) (ns : List Node) → Cover height keys ns → sound height ns ≡ true
 cover-sound height keys ns c =
-    and_from (rising 0 (2 ^ height) ns) (is-distinct halves ns) (to_rising 0 (2 ^ height) ns c.rising) (cover_distinct height keys 0 (2 ^ height) ns c.rising c.row)
+    and_from (rising 0 (2 ^ height) ns) (is_distinct halves ns) (to_rising 0 (2 ^ height) ns c.rising) (cover_distinct height keys 0 (2 ^ height) ns c.rising c.row)
 
 -- In rising order, two rows that are the halves of one node are neighbours.
 meet-halves : (x y : Node) → past x ≤ first_key y → halves x y ≡ true → past x ≡ first_key y
@@ -102,11 +101,11 @@ meet-halves x y up e =
     let next : y.index ≡ x.index + 1 = omega arith in
     subst (λ (l : ℕ). past x ≡ y.index * 2 ^ l) level (ap (λ (i : ℕ). i * 2 ^ x.level) (sym next))
 
-distinct_from : (a b : ℕ) (ns : List Node) → Rising a b ns → neighbours ns ≡ true → is-distinct halves ns ≡ true
+distinct_from : (a b : ℕ) (ns : List Node) → Rising a b ns → neighbours ns ≡ true → is_distinct halves ns ≡ true
 distinct_from a b [] r e = refl
 distinct_from a b (x ∷ ns) r e =
     let h = and_parts (elim ns [ [] ↦ true | m ∷ ms ↦ not (halves x m) ]) (neighbours ns) e in
-    and_from (list_all (λ y. not (halves x y)) ns) (is-distinct halves ns) (to_pass (λ y. not (halves x y)) ns (each ns r.1 h.0)) (distinct_from (past x) b ns r.1 h.1)
+    and_from (list_all (λ y. not (halves x y)) ns) (is_distinct halves ns) (to_pass (λ y. not (halves x y)) ns (each ns r.1 h.0)) (distinct_from (past x) b ns r.1 h.1)
   where
     each : (ms : List Node) → Rising (past x) b ms → elim ms [ [] ↦ true | m ∷ ls ↦ not (halves x m) ] ≡ true → (y : Node) → Memᴰ y ms → not (halves x y) ≡ true
     each [] s f y m = absurd (Memᴰ.not-nil m)
@@ -118,4 +117,4 @@ distinct_from a b (x ∷ ns) r e =
 
 -- Rows read one by one, each tested against the one before it, are sound.
 pub neighbours-sound : (height : ℕ) (ns : List Node) → rising 0 (2 ^ height) ns ≡ true → neighbours ns ≡ true → sound height ns ≡ true
-neighbours-sound height ns r e = and_from (rising 0 (2 ^ height) ns) (is-distinct halves ns) r (distinct_from 0 (2 ^ height) ns (rising-from 0 (2 ^ height) ns r) e)
+neighbours-sound height ns r e = and_from (rising 0 (2 ^ height) ns) (is_distinct halves ns) r (distinct_from 0 (2 ^ height) ns (rising-from 0 (2 ^ height) ns r) e)

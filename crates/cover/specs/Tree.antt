@@ -1,7 +1,7 @@
 -- The nodes of a key tree, the keys under each, and the cover of a set of keys. Assumes nothing.
 use Rattle.std.specs.Prelude.{◌≡◌, ℕ, ◌+◌, ◌*◌, ◌/◌, ◌^◌, ◌<◌, ◌≤◌, Bool, true, false, not, ◌&&◌, ◌||◌, ◌⊎◌, ◌↔◌, List, [], ◌∷◌, ◌==◌, nat_le, nat_lt}
+use Rattle.std.specs.List.{list_all}
 use mathlib.Core.List.{Memᴰ}
-use Rattle.std.specs.Map.Invariant.{is-distinct}
 use Rattle.cover.specs.declared.node.Node.{Node}
 use Rattle.cover.specs.declared.node.Span.{Span}
 
@@ -73,8 +73,13 @@ rising from to (n ∷ ns) = nat_le from (first_key n) && rising (past n) to ns
 abbrev pub halves : Node → Node → Bool
 halves m n = m.level == n.level && m.index / 2 == n.index / 2
 
+-- No element of the list is paired with a later one.
+abbrev pub is_distinct : {K : Type 0} → (K → K → Bool) → List K → Bool
+is_distinct pairs [] = true
+is_distinct pairs (x ∷ xs) = list_all (λ y. not (pairs x y)) xs && is_distinct pairs xs
+
 abbrev pub sound : ℕ → List Node → Bool
-sound height ns = rising 0 (2 ^ height) ns && is-distinct halves ns
+sound height ns = rising 0 (2 ^ height) ns && is_distinct halves ns
 
 -- Every set of keys has a cover, and only one.
 abbrev pub CoverIsOne : Type 0

@@ -15,14 +15,14 @@ returns c =
     let figures = c.args.figures.now in
     let cells = c.args.cells.now in
     let p = c.in-Ok.plan in
-    let rules = plan_rules c.args.fan-out (length figures) (length cells) in
+    let rules = plan_rules c.args.fan_out (length figures) (length cells) in
     let passed : first rules ≡ None = sym c.new.ensures.refuses ∙ ap refusal c.in-Ok.is in
     let is = c.new.ensures.plans p c.in-Ok.is in
     let capacity-is : p.capacity ≡ length figures = ap (λ t. t.1) is in
     let fits : p.cells ≤ length cells = omega (arith, ap (λ t. t.2) is, ltb-false _ _ (clear rules passed).1.1.0) in
     let new = c.new-store.ensures in
-    let all = c.put-all.ensures in
+    let all = c.put_all.ensures in
     let most : places p (length cells) - 0 ≡ length figures = omega (arith, capacity-is, enough p (length cells) fits) in
-    let row : (tree c.put-all.new.store).entries ≡ figures =
+    let row : (tree c.put_all.new.store).entries ≡ figures =
     ap (λ t. t.entries) (all.leaves ∙ ap (λ t. filled t figures) new.begins) ∙ ap (λ m. take m figures) most ∙ take_all (length figures) figures (omega arith) in
-    c.rounds-of.ensures (all.keeps new.sound) ∙ ap (λ xs. rounds_sum xs c.args.rounds) row ∙ sym (ap (λ o. unless_refused o (rounds_sum figures c.args.rounds)) passed)
+    c.rounds_of.ensures (all.keeps new.sound) ∙ ap (λ xs. rounds_sum xs c.args.rounds) row ∙ sym (ap (λ o. unless_refused o (rounds_sum figures c.args.rounds)) passed)

@@ -22,4 +22,4 @@ returns c =
     (c.spread.ensures ∙ ap (λ (l : List ℕ). spread_of (get_or l 0 0)) c.to_be_bytes.ensures)
     (c.spread-2.ensures ∙ ap (λ (l : List ℕ). spread_of (get_or l 1 0)) c.to_be_bytes-2.ensures)
     (c.spread-3.ensures ∙ ap (λ (l : List ℕ). spread_of (get_or l 2 0)) c.to_be_bytes-3.ensures)
-    (c.spread-4.ensures ∙ ap (λ (l : List ℕ). spread_of (get_or l 3 0)) c.to-be-bytes-4.ensures)
+    (c.spread-4.ensures ∙ ap (λ (l : List ℕ). spread_of (get_or l 3 0)) c.to_be_bytes-4.ensures)

@@ -14,11 +14,11 @@ returns g c =
     let begins = c.new-store.ensures.begins in
     let places = ap (λ s. s.capacity) begins in
     let new = ap (λ s. s.entries) begins in
-    let left : c.two-in.new.store.cells.now ≡ both_left k keys (flat made).capacity x y made.cells.now =
-    flat-left k keys x y made c.two-in.new.store new (c.two-in.ensures.memory tt new) in
-    let cells : c.two-in.new.store.cells.now ≡ both_left k keys (min (length c.args.cells.now) 1048576) x y c.args.cells.now =
+    let left : c.two_in.new.store.cells.now ≡ both_left k keys (flat made).capacity x y made.cells.now =
+    flat-left k keys x y made c.two_in.new.store new (c.two_in.ensures.memory tt new) in
+    let cells : c.two_in.new.store.cells.now ≡ both_left k keys (min (length c.args.cells.now) 1048576) x y c.args.cells.now =
     left ∙ (λ i. both_left k keys (places i) x y (c.new-store.ensures.touches i)) in
     record {
-      sums = subst (λ n. SumOfTwo k keys n x y c.two-in.result) places (c.two-in.ensures.sums tt new);
+      sums = subst (λ n. SumOfTwo k keys n x y c.two_in.result) places (c.two_in.ensures.sums tt new);
       memory = search rules;
     }

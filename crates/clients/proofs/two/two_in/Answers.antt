@@ -8,8 +8,8 @@ use Rattle.clients.proofs.Twice.{first-refused, second-refused, both-accepted, s
 use Rattle.clients.proofs.TwiceCells.{cells-none, cells-one, cells-both}
 use Rattle.clients.proofs.two.two_in.Goals as goal
 
-pub returns-in-err-append : goal.returns-in-err-append
-returns-in-err-append g c =
+pub returns-in_err-append : goal.returns-in_err-append
+returns-in_err-append g c =
     let k = g.G.Group.kind in
     let m = g.S.Store in
     let keys = g.K.KeySource.keys in
@@ -22,7 +22,7 @@ returns-in-err-append g c =
     let answer = c.from-residual.result in
     let why = err_from_is_err_and answer c.from-residual.ensures.1 in
     let is = why.1 ∙ ap Err why.2 in
-    let one = c.in-err-append.ensures in
+    let one = c.in_err-append.ensures in
     let told = λ (sound : m.sound store) (new : (m.contents store).entries ≡ []). subst (SumOfTwo k (keys s) places x y) (sym is) (first-refused k (keys s) places x y (one.faithful [] (start store sound new)).2.0) in
     record {
       sums = λ sound new. subst (λ t. SumOfTwo k (keys t) places x y answer) c.new-epoch.ensures (told sound new);
@@ -31,8 +31,8 @@ returns-in-err-append g c =
       place = one.place;
     }
 
-pub returns-in-err-append-2 : goal.returns-in-err-append-2
-returns-in-err-append-2 g c =
+pub returns-in_err-append-2 : goal.returns-in_err-append-2
+returns-in_err-append-2 g c =
     let k = g.G.Group.kind in
     let m = g.S.Store in
     let keys = g.K.KeySource.keys in
@@ -43,11 +43,11 @@ returns-in-err-append-2 g c =
     let x = c.args.x in
     let y = c.args.y in
     let s = c.new-epoch.result.source in
-    let answer = c.from-residual-in-err-append-2.result in
-    let why = err_from_is_err_and answer c.from-residual-in-err-append-2.ensures.1 in
+    let answer = c.from-residual-in_err-append-2.result in
+    let why = err_from_is_err_and answer c.from-residual-in_err-append-2.ensures.1 in
     let is = why.1 ∙ ap Err why.2 in
-    let one = c.in-ok-append.ensures in
-    let two = c.in-err-append-2.ensures in
+    let one = c.in_ok-append.ensures in
+    let two = c.in_err-append-2.ensures in
     let same : (m.contents middle).capacity ≡ places = ap (λ d. d.capacity) one.does.leaves in
     let told = λ (sound : m.sound store) (new : (m.contents store).entries ≡ []).
     let laws = (two.faithful _ (one.faithful [] (start store sound new)).0).2 in
@@ -73,8 +73,8 @@ returns g c =
     let y = c.args.y in
     let s = c.new-epoch.result.source in
     let answer = c.open.result in
-    let one = c.in-ok-append.ensures in
-    let two = c.in-ok-append-2.ensures in
+    let one = c.in_ok-append.ensures in
+    let two = c.in_ok-append-2.ensures in
     let same : (m.contents after).capacity ≡ places = ap (λ d. d.capacity) two.does.leaves ∙ ap (λ d. d.capacity) one.does.leaves in
     let reader : keys c.keys.result.now ≡ keys s = ap keys (c.keys.ensures ∙ c.close-epoch.ensures) in
     let laws = λ (sound : m.sound store) (new : (m.contents store).entries ≡ []).

@@ -18,29 +18,29 @@ returns-then-past-span-2 t c = record {
   kept = c.push.ensures.kept;
 }
 
-pub overflow-mul-index : goal.overflow-mul-index
-overflow-mul-index t c = omega (arith, index-small c.args.level c.args.index c.requires.inside)
+pub overflow_mul-index : goal.overflow_mul-index
+overflow_mul-index t c = omega (arith, index-small c.args.level c.args.index c.requires.inside)
 
 pub cut-requires : goal.cut-requires
-cut-requires t c = let h = halved-at c.args.span.from c.args.span.to c.args.level c.args.index _ _ c.first-key-first.ensures c.first-key-past.ensures c.if-span-first.false c.if-past-span.false c.else-span-first-2.either in (omega arith, (omega arith, omega (arith, h.left_in)))
+cut-requires t c = let h = halved-at c.args.span.from c.args.span.to c.args.level c.args.index _ _ c.first_key-first.ensures c.first_key-past.ensures c.if-span-first.false c.if-past-span.false c.else-span-first-2.either in (omega arith, (omega arith, omega (arith, h.left_in)))
 
 pub returns-then-not-cut : goal.returns-then-not-cut
 returns-then-not-cut t c = record {
-  added = step_left c.args.span.from c.args.span.to c.args.level c.args.index (listed c.args.rows.now) (halved-at c.args.span.from c.args.span.to c.args.level c.args.index _ _ c.first-key-first.ensures c.first-key-past.ensures c.if-span-first.false c.if-past-span.false c.else-span-first-2.either) c.if-not-cut.ensures.added;
+  added = step_left c.args.span.from c.args.span.to c.args.level c.args.index (listed c.args.rows.now) (halved-at c.args.span.from c.args.span.to c.args.level c.args.index _ _ c.first_key-first.ensures c.first_key-past.ensures c.if-span-first.false c.if-past-span.false c.else-span-first-2.either) c.if-not-cut.ensures.added;
   kept = c.cut.ensures.kept;
 }
 
-pub overflow-mul-index-2 : goal.overflow-mul-index-2
-overflow-mul-index-2 t c = omega (arith, index-small c.args.level c.args.index c.requires.inside)
+pub overflow_mul-index-2 : goal.overflow_mul-index-2
+overflow_mul-index-2 t c = omega (arith, index-small c.args.level c.args.index c.requires.inside)
 
-pub overflow-add-index-2 : goal.overflow-add-index-2
-overflow-add-index-2 t c = omega (arith, index-small c.args.level c.args.index c.requires.inside)
+pub overflow_add-index-2 : goal.overflow_add-index-2
+overflow_add-index-2 t c = omega (arith, index-small c.args.level c.args.index c.requires.inside)
 
 pub cut-requires-2 : goal.cut-requires-2
-cut-requires-2 t c = let h = halved-at c.args.span.from c.args.span.to c.args.level c.args.index _ _ c.first-key-first.ensures c.first-key-past.ensures c.if-span-first.false c.if-past-span.false c.else-span-first-2.either in (omega arith, (omega arith, omega (arith, h.right_in)))
+cut-requires-2 t c = let h = halved-at c.args.span.from c.args.span.to c.args.level c.args.index _ _ c.first_key-first.ensures c.first_key-past.ensures c.if-span-first.false c.if-past-span.false c.else-span-first-2.either in (omega arith, (omega arith, omega (arith, h.right_in)))
 
 pub returns : goal.returns
 returns t c = record {
-  added = step_right c.cut-2.result c.args.span.from c.args.span.to c.args.level c.args.index (listed c.args.rows.now) (listed c.cut.new.rows) (listed c.cut-2.new.rows) (halved-at c.args.span.from c.args.span.to c.args.level c.args.index _ _ c.first-key-first.ensures c.first-key-past.ensures c.if-span-first.false c.if-past-span.false c.else-span-first-2.either) c.if-not-cut.ensures.added c.cut-2.ensures.added;
+  added = step_right c.cut-2.result c.args.span.from c.args.span.to c.args.level c.args.index (listed c.args.rows.now) (listed c.cut.new.rows) (listed c.cut-2.new.rows) (halved-at c.args.span.from c.args.span.to c.args.level c.args.index _ _ c.first_key-first.ensures c.first_key-past.ensures c.if-span-first.false c.if-past-span.false c.else-span-first-2.either) c.if-not-cut.ensures.added c.cut-2.ensures.added;
   kept = kept-both (listed c.args.rows.now) (listed c.cut.new.rows) (cut c.args.span.from c.args.span.to (c.args.level - 1) (2 * c.args.index)) c.cut-2.new.rows.list c.if-not-cut.ensures.added c.cut-2.ensures.kept;
 }

@@ -6,14 +6,14 @@ use Rattle.cover.proofs.next.check_next.Goals as goal
 pub returns-then-height-lt1 : goal.returns-then-height-lt1
 returns-then-height-lt1 c = record { answers = grind (arith, nat_tests); sound = passing_is_sound }
 
-pub returns-then-not-is-in-tree : goal.returns-then-not-is-in-tree
-returns-then-not-is-in-tree c = record { answers = grind (arith, nat_tests); sound = passing_is_sound }
+pub returns-then-not-is_in_tree : goal.returns-then-not-is_in_tree
+returns-then-not-is_in_tree c = record { answers = grind (arith, nat_tests); sound = passing_is_sound }
 
 pub returns-in-default : goal.returns-in-default
 returns-in-default c = record { answers = grind (arith, nat_tests); sound = passing_is_sound }
 
-pub returns-then-begins-before-end : goal.returns-then-begins-before-end
-returns-then-begins-before-end c = record { answers = grind (arith, nat_tests); sound = passing_is_sound }
+pub returns-then-begins_before_end : goal.returns-then-begins_before_end
+returns-then-begins_before_end c = record { answers = grind (arith, nat_tests); sound = passing_is_sound }
 
 pub returns-then-last-node-2 : goal.returns-then-last-node-2
 returns-then-last-node-2 c = record { answers = grind (arith, nat_tests); sound = passing_is_sound }

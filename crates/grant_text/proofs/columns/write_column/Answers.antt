@@ -9,8 +9,8 @@ use Rattle.grant_text.proofs.columns.write_column.Goals.{then-rest-eq0, else-res
 some : (c : goal.Start) → 0 < length c.args.out.now
 some c = omega (arith, decimal_nonempty c.args.n (omega arith))
 
-pub overflow-sub-last : goal.overflow-sub-last
-overflow-sub-last c = some c
+pub overflow_sub-last : goal.overflow_sub-last
+overflow_sub-last c = some c
 
 pub bounds-out-last : goal.bounds-out-last
 bounds-out-last c = omega (arith, some c)

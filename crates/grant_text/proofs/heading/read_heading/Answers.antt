@@ -9,7 +9,7 @@ returns-then-height-lt1 c = (
       let rest = c.in-Some.rest.now in
       let out = c.then-height-lt1.either in
       let size = headed.0 in
-      let same = sizes-same rest c.in-Some-read-sizes.height c.in-Some-read-sizes.count h k (search rules) (search rules) (omega arith) (omega arith)
-      c.in-Some-read-sizes.ensures (letters_cut c.args.text.now rest h k c.in-Some.ensures headed.1) in
+      let same = sizes-same rest c.in-Some-read_sizes.height c.in-Some-read_sizes.count h k (search rules) (search rules) (omega arith) (omega arith)
+      c.in-Some-read_sizes.ensures (letters_cut c.args.text.now rest h k c.in-Some.ensures headed.1) in
       grind arith,
 )

@@ -13,22 +13,22 @@ returns-then-rest-lt8 c h k sh sk e =
       | then-rest-lt8-via-else-rest-lt8+then-rest-ne10 w ↦ w.if-rest-ne10.true p.end
     ]
 
-pub returns-in-err-height : goal.returns-in-err-height
-returns-in-err-height c =
+pub returns-in_err-height : goal.returns-in_err-height
+returns-in_err-height c =
     let s = c.args.rest.now in
-    rw c.from-residual.ensures (λ h k sh sk e. c.in-err-height.ensures h sh ((sizes-cut s h k e).height ∙ ap (λ w. column w h) (sym (length_part 0 3 s (omega arith)))))
+    rw c.from-residual.ensures (λ h k sh sk e. c.in_err-height.ensures h sh ((sizes-cut s h k e).height ∙ ap (λ w. column w h) (sym (length_part 0 3 s (omega arith)))))
 
-pub returns-in-err-count : goal.returns-in-err-count
-returns-in-err-count c =
+pub returns-in_err-count : goal.returns-in_err-count
+returns-in_err-count c =
     let s = c.args.rest.now in
-    rw c.from-residual-in-err-count.ensures (λ h k sh sk e. c.in-err-count.ensures k sk ((sizes-cut s h k e).count ∙ ap (λ w. column w k) (sym (length_part 3 4 s (omega arith)))))
+    rw c.from-residual-in_err-count.ensures (λ h k sh sk e. c.in_err-count.ensures k sk ((sizes-cut s h k e).count ∙ ap (λ w. column w k) (sym (length_part 3 4 s (omega arith)))))
 
 pub returns : goal.returns
 returns c =
     let s = c.args.rest.now in
     sizes_join s _ _ (record {
       long = omega arith;
-      height = c.in-ok-height.ensures ∙ ap (λ w. column w c.in-ok-height.height) (length_part 0 3 s (omega arith));
-      count = c.in-ok-count.ensures ∙ ap (λ w. column w c.in-ok-count.count) (length_part 3 4 s (omega arith));
+      height = c.in_ok-height.ensures ∙ ap (λ w. column w c.in_ok-height.height) (length_part 0 3 s (omega arith));
+      count = c.in_ok-count.ensures ∙ ap (λ w. column w c.in_ok-count.count) (length_part 3 4 s (omega arith));
       end = c.if-rest-ne10.false;
     })

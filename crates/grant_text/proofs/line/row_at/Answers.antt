@@ -6,7 +6,7 @@ use Rattle.grant_text.proofs.line.row_at.Goals as goal
 pub returns : goal.returns
 returns c =
     let is = line_is c.args.i c.args.text.now in
-    some_weaker c.read-line.result _ _ _ _
+    some_weaker c.read_line.result _ _ _ _
     (λ none x shown. none x shown.0 (sym is ∙ shown.1))
     (λ x read. (read.0, is ∙ read.1))
-    c.read-line.ensures
+    c.read_line.ensures

@@ -14,17 +14,17 @@ returns g c =
     let x = c.args.x in
     let y = c.args.y in
     let made = c.new-store.result in
-    let after = c.two-in.new.store in
+    let after = c.two_in.new.store in
     let new = c.new-store.ensures in
     let places = ap (λ s. s.capacity) new.begins in
     let none = ap (λ s. s.entries) new.begins in
-    let done = subst (λ n. SumOfTwo k keys n x y c.two-in.result) places (c.two-in.ensures.sums new.sound none) in
+    let done = subst (λ n. SumOfTwo k keys n x y c.two_in.result) places (c.two_in.ensures.sums new.sound none) in
     record {
       sums = done;
       answered = two_answered k keys p (length lent) done;
       spares = λ few.
           let same : after.cells.now ≡ lent =
-          cells-full k tree (λ s. s.cells.now) (with_figure k) keys x y made none after (places ∙ short p (length lent) few) (c.two-in.ensures.memory new.sound none)
+          cells-full k tree (λ s. s.cells.now) (with_figure k) keys x y made none after (places ∙ short p (length lent) few) (c.two_in.ensures.memory new.sound none)
           ∙ new.touches ∙ begun-short p k.zero lent few in
           search rules;
     }

@@ -12,5 +12,5 @@ returns c =
     let xs = c.args.text.now in
     let long : length xs ≡ 32 = omega arith in
     let whole = block_from (number_from (Some 0) (take 16 xs)) (number_from (Some 0) (take 16 (drop 16 xs))) in
-    let words = ap₂ block_from c.read-word.ensures c.read-word-2.ensures in
+    let words = ap₂ block_from c.read_word.ensures c.read_word-2.ensures in
     c.pair.ensures ∙ words ∙ sym (ap (λ (m : ℕ). cond (eqb m 32) whole None) long)

@@ -7,6 +7,6 @@ pub returns : goal.returns
 returns g c =
     record {
       does = search rules;
-      lawful = issue-continues g.C.Cipher.encrypted c.issue-with.ensures;
+      lawful = issue-continues g.C.Cipher.encrypted c.issue_with.ensures;
       covers = cover_is_one;
     }

@@ -21,7 +21,7 @@ loop-i-preserved g c =
 
 pub loop-i-init : goal.loop-i-init
 loop-i-init g c =
-    let blank : c.clear-rows.new.rows ≡ replicate 128 zero_row = c.clear-rows.ensures ∙ ap (λ (k : ℕ). replicate k zero_row) c.requires.sized in
+    let blank : c.clear_rows.new.rows ≡ replicate 128 zero_row = c.clear_rows.ensures ∙ ap (λ (k : ℕ). replicate k zero_row) c.requires.sized in
     (ap length blank ∙ length-replicate 128 zero_row, blank, refl)
 
 pub returns : goal.returns

@@ -8,7 +8,7 @@ pub returns : goal.returns
 returns g c =
     record {
       does = search rules;
-      lawful = narrow-continues g.C.Cipher.encrypted c.narrow-with.ensures;
+      lawful = narrow-continues g.C.Cipher.encrypted c.narrow_with.ensures;
       covers = cover_is_one;
       nothing = no_rows_no_keys;
     }

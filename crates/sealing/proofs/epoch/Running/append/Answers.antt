@@ -51,7 +51,7 @@ returns g c =
     let store = c.args.store.now in
     let before = m.contents store in
     let after = m.contents c.put.new.self in
-    let keeps = c.in-ok-put.ensures.keeps in
+    let keeps = c.in_ok-put.ensures.keeps in
     let line = c.args.line in
     let free : length before.entries < before.capacity = omega arith in
     let here = c.len-n.ensures.is in
@@ -60,14 +60,14 @@ returns g c =
     let has : owner (length before.entries) ≡ Some x = ap owner (sym here) ∙ sym c.key.ensures ∙ c.in-Some.is in
     let next : owner (length before.entries + 1) ≡ Some y = ap (λ n. owner (n + 1)) (sym here) ∙ sym c.key-2.ensures ∙ c.in-Some-key.is in
     let sealed : c.sealed.result ≡ seal k owner (length before.entries) line = c.sealed.ensures ∙ seal_is k owner before line x y has next in
-    let leaves : after ≡ push before (seal k owner (length before.entries) line) = c.in-ok-put.ensures.leaves ∙ ap (push before) sealed in
+    let leaves : after ≡ push before (seal k owner (length before.entries) line) = c.in_ok-put.ensures.leaves ∙ ap (push before) sealed in
     let done = append_done k owner before line after free has next leaves in
     let does = subst (λ n. Appends k owner before line (Ok n) after) (sym here) done in
     record {
       does = does;
       spares = λ e. absurd (false≢true (sym e));
       keeps = keeps;
-      writes = c.in-ok-put.ensures.writes ∙ ap (m.written store) sealed;
-      place = c.in-ok-put.ensures.place;
+      writes = c.in_ok-put.ensures.writes ∙ ap (m.written store) sealed;
+      place = c.in_ok-put.ensures.place;
       faithful = append_continues k owner m.contents m.sound store c.put.new.self does keeps;
     }

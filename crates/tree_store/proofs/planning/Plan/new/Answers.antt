@@ -11,50 +11,50 @@ use Rattle.tree_store.proofs.planning.Plan.new.Goals as goal
 ok_same : {x y : Plan} → ◌≡◌ {A = Result Plan Refusal} (Ok x) (Ok y) → x ≡ y
 ok_same e = cc
 
-pub returns-then-fan-out-lt2 : goal.returns-then-fan-out-lt2
-returns-then-fan-out-lt2 c = record {
-  refuses = bad_fan_out c.args.fan-out c.args.capacity c.args.cells c.then-fan-out-lt2.either;
+pub returns-then-fan_out-lt2 : goal.returns-then-fan_out-lt2
+returns-then-fan_out-lt2 c = record {
+  refuses = bad_fan_out c.args.fan_out c.args.capacity c.args.cells c.then-fan_out-lt2.either;
   plans = λ p is. absurd (let z : ◌≡◌ {A = ℕ} 0 1 = cc in omega arith);
 }
 
 pub returns-then-capacity-lt1 : goal.returns-then-capacity-lt1
 returns-then-capacity-lt1 c = record {
-  refuses = bad_capacity c.args.fan-out c.args.capacity c.args.cells c.if-fan-out-lt2.false c.if-fan-out-gt64.false c.then-capacity-lt1.either;
+  refuses = bad_capacity c.args.fan_out c.args.capacity c.args.cells c.if-fan_out-lt2.false c.if-fan_out-gt64.false c.then-capacity-lt1.either;
   plans = λ p is. absurd (let z : ◌≡◌ {A = ℕ} 0 1 = cc in omega arith);
 }
 
 pub loop-width-init : goal.loop-width-init
-loop-width-init c = (c.if-fan-out-lt2.false, climb-first c.args.fan-out c.args.capacity c.if-capacity-lt1.false c.if-capacity-gt-MAX-CAPACITY.false)
+loop-width-init c = (c.if-fan_out-lt2.false, climb-first c.args.fan_out c.args.capacity c.if-capacity-lt1.false c.if-capacity-gt-MAX_CAPACITY.false)
 
 pub loop-width-smaller : goal.loop-width-smaller
-loop-width-smaller c = rw c.div-ceil-width.ensures (covering-less c.args.fan-out c.loop-width.width c.loop-width.invariant.0 c.loop-width-test.true)
+loop-width-smaller c = rw c.div_ceil-width.ensures (covering-less c.args.fan_out c.loop-width.width c.loop-width.invariant.0 c.loop-width-test.true)
 
 pub loop-width-preserved : goal.loop-width-preserved
 loop-width-preserved c =
     let on = climb-more c.loop-width.invariant.1 c.loop-width.invariant.0 c.loop-width-test.true in
-    (c.loop-width.invariant.0, simp (c.div-ceil-width.ensures, add-one) on)
+    (c.loop-width.invariant.0, simp (c.div_ceil-width.ensures, add-one) on)
 
-pub returns-then-cells-needed : goal.returns-then-cells-needed
-returns-then-cells-needed c =
+pub returns-then-cells_needed : goal.returns-then-cells_needed
+returns-then-cells_needed c =
     let e = climb-cells c.loop-width.invariant.1 c.loop-width-test.false in
     record {
-      refuses = short_of c.args.fan-out c.args.capacity c.args.cells c.if-fan-out-lt2.false c.if-fan-out-gt64.false c.if-capacity-lt1.false c.if-capacity-gt-MAX-CAPACITY.false (omega arith);
+      refuses = short_of c.args.fan_out c.args.capacity c.args.cells c.if-fan_out-lt2.false c.if-fan_out-gt64.false c.if-capacity-lt1.false c.if-capacity-gt-MAX_CAPACITY.false (omega arith);
       plans = λ p is. absurd (let z : ◌≡◌ {A = ℕ} 0 1 = cc in omega arith);
     }
 
-pub invariant-of-result : goal.invariant-of-result
-invariant-of-result c =
+pub invariant_of-result : goal.invariant_of-result
+invariant_of-result c =
     let e = climb-cells c.loop-width.invariant.1 c.loop-width-test.false in
     let f = climb_last c.loop-width.invariant.1 c.loop-width-test.false in
-    ((c.if-fan-out-lt2.false, c.if-fan-out-gt64.false), ((c.if-capacity-lt1.false, c.if-capacity-gt-MAX-CAPACITY.false), (omega arith, (e, tt))))
+    ((c.if-fan_out-lt2.false, c.if-fan_out-gt64.false), ((c.if-capacity-lt1.false, c.if-capacity-gt-MAX_CAPACITY.false), (omega arith, (e, tt))))
 
 pub returns : goal.returns
 returns c =
-    let k = c.args.fan-out in
+    let k = c.args.fan_out in
     let n = c.args.capacity in
     let e = climb-cells c.loop-width.invariant.1 c.loop-width-test.false in
     let fits : cells_needed k n ≤ c.args.cells = omega arith in
     record {
-      refuses = planned k n c.args.cells c.if-fan-out-lt2.false c.if-fan-out-gt64.false c.if-capacity-lt1.false c.if-capacity-gt-MAX-CAPACITY.false fits;
+      refuses = planned k n c.args.cells c.if-fan_out-lt2.false c.if-fan_out-gt64.false c.if-capacity-lt1.false c.if-capacity-gt-MAX_CAPACITY.false fits;
       plans = λ p is. sym (ap figures (ok_same is)) ∙ ap (λ cells. (k, n, cells)) e;
     }

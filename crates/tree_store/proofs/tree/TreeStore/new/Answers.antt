@@ -8,18 +8,18 @@ use Rattle.tree_store.proofs.Shapes.{plan_cells}
 use Rattle.tree_store.proofs.Standing.{sound_new, sound_none}
 use Rattle.tree_store.proofs.tree.TreeStore.new.Goals as goal
 
-pub invariant-of-shape : goal.invariant-of-shape
-invariant-of-shape g c = (rw c.fan-out.ensures c.args.plan.fanned, (omega arith, (sym (count_none c.fan-out.result), tt)))
+pub invariant_of-shape : goal.invariant_of-shape
+invariant_of-shape g c = (rw c.fan_out.ensures c.args.plan.fanned, (omega arith, (sym (count_none c.fan_out.result), tt)))
 
-pub returns-then-cells-needed : goal.returns-then-cells-needed
-returns-then-cells-needed g c =
+pub returns-then-cells_needed : goal.returns-then-cells_needed
+returns-then-cells_needed g c =
     let p = c.args.plan in
     let cells = c.args.cells.now in
-    let short = lt-ltb (length cells) p.cells (omega (arith, c.cells-needed.ensures.is)) in
+    let short = lt-ltb (length cells) p.cells (omega (arith, c.cells_needed.ensures.is)) in
     record {
       begins = sym (ap empty (cond-true _ _ _ short));
-      sound = sound_none g.G.Group.kind c.fan-out.result cells (omega (arith, c.fan-out.ensures, p.fanned.0));
-      fans = c.fan-out.ensures;
+      sound = sound_none g.G.Group.kind c.fan_out.result cells (omega (arith, c.fan_out.ensures, p.fanned.0));
+      fans = c.fan_out.ensures;
       touches = sym (cond-true _ _ _ short);
       place = refl;
     }
@@ -28,23 +28,23 @@ returns-then-cells-needed g c =
 room : (k most levels n k' most' levels' count : ℕ) → n ≤ count → level_start k most levels ≡ n → k' ≡ k → most' ≡ most → levels' ≡ levels → level_start k' most' levels' ≤ count
 room k most levels n k' most' levels' count h e p q r = rw (p, q, r) (omega arith)
 
-pub invariant-of-result-2 : goal.invariant-of-result-2
-invariant-of-result-2 g c =
+pub invariant_of-result-2 : goal.invariant_of-result-2
+invariant_of-result-2 g c =
     let p = c.args.plan in
-    (room p.fan_out p.capacity p.levels p.cells c.fan-out-2.result c.capacity.result c.levels.result (length c.clear.new.cells) (omega (arith, c.cells-needed.ensures.is)) (sym (plan_cells p)) c.fan-out-2.ensures c.capacity.ensures c.levels.ensures.is, (omega arith, tt))
+    (room p.fan_out p.capacity p.levels p.cells c.fan_out-2.result c.capacity.result c.levels.result (length c.clear.new.cells) (omega (arith, c.cells_needed.ensures.is)) (sym (plan_cells p)) c.fan_out-2.ensures c.capacity.ensures c.levels.ensures.is, (omega arith, tt))
 
 pub returns : goal.returns
 returns g c =
     let k = g.G.Group.kind in
     let p = c.args.plan in
     let cells = c.args.cells.now in
-    let enough = le-ltb (length cells) p.cells (omega (arith, c.cells-needed.ensures.is)) in
-    let over : c.clear.new.cells ≡ cleared k.zero p.cells cells = c.clear.ensures ∙ ap (λ n. cleared k.zero n cells) c.cells-needed.ensures.is in
+    let enough = le-ltb (length cells) p.cells (omega (arith, c.cells_needed.ensures.is)) in
+    let over : c.clear.new.cells ≡ cleared k.zero p.cells cells = c.clear.ensures ∙ ap (λ n. cleared k.zero n cells) c.cells_needed.ensures.is in
     let made = sound_new k p.fan_out p.capacity cells in
     record {
       begins = ap empty (c.capacity.ensures ∙ sym (cond-false _ _ _ enough));
-      sound = simp (c.fan-out-2.ensures, c.capacity.ensures, c.levels.ensures.is, over, p.counted, p.levelled) made;
-      fans = c.fan-out-2.ensures;
+      sound = simp (c.fan_out-2.ensures, c.capacity.ensures, c.levels.ensures.is, over, p.counted, p.levelled) made;
+      fans = c.fan_out-2.ensures;
       touches = over ∙ sym (cond-false _ _ _ enough);
       place = refl;
     }

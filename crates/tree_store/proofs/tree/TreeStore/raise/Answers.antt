@@ -8,8 +8,8 @@ use Rattle.tree_store.proofs.tree.TreeStore.raise.Given as given
 use Rattle.tree_store.proofs.tree.TreeStore.raise.Goals as goal
 use Rattle.tree_store.proofs.tree.TreeStore.raise.Goals.{In-loop-below}
 
-pub offset-bounds-self-number : goal.offset-bounds-self-number
-offset-bounds-self-number g c =
+pub offset_bounds-self-number : goal.offset_bounds-self-number
+offset_bounds-self-number g c =
     let s = c.args.self.now in
     let b = lowest-room s.shape.fan_out s.shape.capacity s.shape.levels (length s.cells.now) s.shape.levelled s.room in
     let h : s.used < length s.cells.now = omega arith in search rules
@@ -20,8 +20,8 @@ bounds-self-number g c =
     let b = lowest-room s.shape.fan_out s.shape.capacity s.shape.levels (length s.cells.now) s.shape.levelled s.room in
     omega arith
 
-pub overflow-sub-below-end : goal.overflow-sub-below-end
-overflow-sub-below-end g c = let s = c.args.self.now.shape in levels_some s.fan_out s.capacity s.levels s.levelled
+pub overflow_sub-below-end : goal.overflow_sub-below-end
+overflow_sub-below-end g c = let s = c.args.self.now.shape in levels_some s.fan_out s.capacity s.levels s.levelled
 
 pub loop-below-init : goal.loop-below-init
 loop-below-init g c =
@@ -47,20 +47,20 @@ module _ (g : given.Over) (c : goal.In-loop-below g) where
       let t = c.loop-below.self in
       below (length t.cells.now) (subst (λ (p : Shape). level_start p.fan_out p.capacity p.levels ≤ length t.cells.now) c.loop-below.invariant.5 t.room)
 
-pub overflow-add-start : goal.overflow-add-start
-overflow-add-start g c = let h = before g c in search rules
+pub overflow_add-start : goal.overflow_add-start
+overflow_add-start g c = let h = before g c in search rules
 
-pub overflow-add-i : goal.overflow-add-i
-overflow-add-i g c = let h = before g (goal.at.overflow-add-i g c).In-loop-below in search rules
+pub overflow_add-i : goal.overflow_add-i
+overflow_add-i g c = let h = before g (goal.at.overflow_add-i g c).In-loop-below in search rules
 
-pub offset-bounds-self-i : goal.offset-bounds-self-i
-offset-bounds-self-i g c = let h = before g (goal.at.offset-bounds-self-i g c).In-loop-below in search rules
+pub offset_bounds-self-i : goal.offset_bounds-self-i
+offset_bounds-self-i g c = let h = before g (goal.at.offset_bounds-self-i g c).In-loop-below in search rules
 
 pub bounds-self-i : goal.bounds-self-i
 bounds-self-i g c = inside g (goal.at.bounds-self-i g c).In-loop-below
 
-pub offset-bounds-self-i-in-loop-below : goal.offset-bounds-self-i-in-loop-below
-offset-bounds-self-i-in-loop-below g c = let h = before g (goal.at.offset-bounds-self-i-in-loop-below g c).In-loop-below in search rules
+pub offset_bounds-self-i-in-loop-below : goal.offset_bounds-self-i-in-loop-below
+offset_bounds-self-i-in-loop-below g c = let h = before g (goal.at.offset_bounds-self-i-in-loop-below g c).In-loop-below in search rules
 
 pub bounds-self-i-in-loop-below : goal.bounds-self-i-in-loop-below
 bounds-self-i-in-loop-below g c = inside g (goal.at.bounds-self-i-in-loop-below g c).In-loop-below
@@ -74,7 +74,7 @@ loop-below-preserved g c =
     let most = s.shape.capacity in
     let l = t.below in
     let start_is : t.start + t.width ≡ level_start k most (suc l) = omega (arith, t.invariant.0, t.invariant.1) in
-    let width_is : c.div-ceil-width.result ≡ level_width k most (suc l) = c.div-ceil-width.ensures ∙ ap (covering k) t.invariant.1 in
+    let width_is : c.div_ceil-width.result ≡ level_width k most (suc l) = c.div_ceil-width.ensures ∙ ap (covering k) t.invariant.1 in
     let at-is : t.at / k ≡ s.used / k ^ suc l = ap (λ m. m / k) t.invariant.2 ∙ next_up k s.used l in
     let i = t.start + t.width + t.at / k in
     simp add-one (

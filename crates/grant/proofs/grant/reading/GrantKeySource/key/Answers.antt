@@ -10,7 +10,7 @@ use Rattle.grant.proofs.grant.reading.GrantKeySource.key.Goals as goal
 pub leaf-seed-requires : goal.leaf-seed-requires
 leaf-seed-requires g c =
     let s = c.args.self.now in
-    let r = under-inside s.height s.count s.rows c.args.number c.in-Some.row s.sound (sym c.row-over.ensures ∙ c.in-Some.is) in
+    let r = under-inside s.height s.count s.rows c.args.number c.in-Some.row s.sound (sym c.row_over.ensures ∙ c.in-Some.is) in
     omega (arith, r.low)
 
 pub returns-in-default : goal.returns-in-default
@@ -30,5 +30,5 @@ returns g c =
     let k = c.args.number in
     let is : Some c.figure.result ≡ figures width made (grant_words e (rows_of c.args.self.now)) k =
     ap Some (c.figure.ensures ∙ ap (λ (b : Block). made (take width (leaf_words e b))) c.leaf-seed.ensures)
-    ∙ ap (λ (o : Option Row). figured width made (words_from e o k)) (sym c.in-Some.is ∙ c.row-over.ensures) in
+    ∙ ap (λ (o : Option Row). figured width made (words_from e o k)) (sym c.in-Some.is ∙ c.row_over.ensures) in
     record { is = is; lawful = keeps_to e width made c.args.self.now }

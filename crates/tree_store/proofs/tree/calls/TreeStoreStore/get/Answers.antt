@@ -4,8 +4,8 @@ use Rattle.tree_store.proofs.Places.{lowest-room}
 use Rattle.store.proofs.Rows.{nth-within, nth_past}
 use Rattle.tree_store.proofs.tree.calls.TreeStoreStore.get.Goals as goal
 
-pub slice-bounds-used-end : goal.slice-bounds-used-end
-slice-bounds-used-end g c =
+pub slice_bounds-used-end : goal.slice_bounds-used-end
+slice_bounds-used-end g c =
     let s = c.args.self.now in
     let b = lowest-room s.shape.fan_out s.shape.capacity s.shape.levels (length s.cells.now) s.shape.levelled s.room in
     let h : s.used ≤ length s.cells.now = omega arith in search rules

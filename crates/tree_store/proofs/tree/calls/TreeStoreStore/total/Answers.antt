@@ -19,5 +19,5 @@ returns g c =
     let within : ltb (length (take s.used s.cells.now)) c.args.b ≡ false = le-ltb _ _ (omega arith) in
     record {
       refuses = rw (ordered, within);
-      figure = λ sound x is. let same : x ≡ c.sum-between.result = cc in ap k.value same ∙ c.sum-between.ensures sound;
+      figure = λ sound x is. let same : x ≡ c.sum_between.result = cc in ap k.value same ∙ c.sum_between.ensures sound;
     }
