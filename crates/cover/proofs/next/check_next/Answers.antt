@@ -9,8 +9,8 @@ returns-then-height-lt1 c = record { answers = grind (arith, nat_tests); sound =
 pub returns-then-not-is_in_tree : goal.returns-then-not-is_in_tree
 returns-then-not-is_in_tree c = record { answers = grind (arith, nat_tests); sound = passing_is_sound }
 
-pub returns-in-default : goal.returns-in-default
-returns-in-default c = record { answers = grind (arith, nat_tests); sound = passing_is_sound }
+pub returns-in_default : goal.returns-in_default
+returns-in_default c = record { answers = grind (arith, nat_tests); sound = passing_is_sound }
 
 pub returns-then-begins_before_end : goal.returns-then-begins_before_end
 returns-then-begins_before_end c = record { answers = grind (arith, nat_tests); sound = passing_is_sound }

@@ -28,8 +28,8 @@ returns-then-j-capacity g c =
     let does = post_full k step fine other before range full in
     record { does = does; spares = λ e. refl; keeps = λ s. s; writes = refl; place = refl; fits = post_continues k step fine other before before does; grows = λ width reader i x is. is }
 
-pub returns-in-default : goal.returns-in-default
-returns-in-default g c =
+pub returns-in_default : goal.returns-in_default
+returns-in_default g c =
     let k = g.G.Group.kind in
     let fine = g.F.KeySource.keys c.args.fine.now in
     let other = g.O.KeySource.keys c.args.other.now in
@@ -37,12 +37,12 @@ returns-in-default g c =
     let step = c.args.step in
     let range = inside step (omega arith) (omega arith) in
     let free : length before.entries < before.capacity = omega arith in
-    let lacks : other (length before.entries) ≡ None = ap other (sym c.len-j.ensures.is) ∙ sym c.key.ensures ∙ c.in-default.is in
+    let lacks : other (length before.entries) ≡ None = ap other (sym c.len-j.ensures.is) ∙ sym c.key.ensures ∙ c.in_default.is in
     let does = post_no_other k step fine other before range free lacks in
     record { does = does; spares = λ e. refl; keeps = λ s. s; writes = refl; place = refl; fits = post_continues k step fine other before before does; grows = λ width reader i x is. is }
 
-pub returns-in-default-key : goal.returns-in-default-key
-returns-in-default-key g c =
+pub returns-in_default-key : goal.returns-in_default-key
+returns-in_default-key g c =
     let k = g.G.Group.kind in
     let fine = g.F.KeySource.keys c.args.fine.now in
     let other = g.O.KeySource.keys c.args.other.now in
@@ -52,7 +52,7 @@ returns-in-default-key g c =
     let range = inside step (omega arith) (omega arith) in
     let free : length before.entries < before.capacity = omega arith in
     let has : other (length before.entries) ≡ Some c.in-Some.hiding = ap other (sym here) ∙ sym c.key.ensures ∙ c.in-Some.is in
-    let lacks : fine (length before.entries * step) ≡ None = ap (λ j. fine (j * step)) (sym here) ∙ sym c.key-2.ensures ∙ c.in-default-key.is in
+    let lacks : fine (length before.entries * step) ≡ None = ap (λ j. fine (j * step)) (sym here) ∙ sym c.key-2.ensures ∙ c.in_default-key.is in
     let does = post_no_fine k step fine other before range free has lacks in
     record { does = does; spares = λ e. refl; keeps = λ s. s; writes = refl; place = refl; fits = post_continues k step fine other before before does; grows = λ width reader i x is. is }
 

@@ -14,13 +14,13 @@ loop-b-preserved c =
     ∙ ap (λ o. number_from (next n o) (drop (suc i) xs)) read
     )
 
-pub returns-in-default : goal.returns-in-default
-returns-in-default c =
+pub returns-in_default : goal.returns-in_default
+returns-in_default c =
     let xs = c.args.text.now in
     let i = c.loop-b.b-index in
     let n = c.loop-b.n in
     let h : i < length xs = omega arith in
-    let read = sym c.digit.ensures ∙ c.in-default.is in
+    let read = sym c.digit.ensures ∙ c.in_default.is in
     sym (
     c.loop-b.invariant ∙ ap (number_from (Some n)) (drop-cons xs i 0 h)
     ∙ ap (λ o. number_from (next n o) (drop (suc i) xs)) read

@@ -17,20 +17,20 @@ returns-then-n-capacity g c =
     let does = append-full k owner before c.args.line full in
     record { does = does; spares = λ e. refl; keeps = λ s. s; writes = refl; place = refl; faithful = append_continues k owner m.contents m.sound store store does (λ s. s) }
 
-pub returns-in-default : goal.returns-in-default
-returns-in-default g c =
+pub returns-in_default : goal.returns-in_default
+returns-in_default g c =
     let k = g.G.Group.kind in
     let owner = g.K.KeySource.keys c.args.self.now.source in
     let m = g.S.Store in
     let store = c.args.store.now in
     let before = m.contents store in
     let free : length before.entries < before.capacity = omega arith in
-    let lacks : owner (length before.entries) ≡ None = ap owner (sym c.len-n.ensures.is) ∙ sym c.key.ensures ∙ c.in-default.is in
+    let lacks : owner (length before.entries) ≡ None = ap owner (sym c.len-n.ensures.is) ∙ sym c.key.ensures ∙ c.in_default.is in
     let does = append_no_before k owner before c.args.line free lacks in
     record { does = does; spares = λ e. refl; keeps = λ s. s; writes = refl; place = refl; faithful = append_continues k owner m.contents m.sound store store does (λ s. s) }
 
-pub returns-in-default-key : goal.returns-in-default-key
-returns-in-default-key g c =
+pub returns-in_default-key : goal.returns-in_default-key
+returns-in_default-key g c =
     let k = g.G.Group.kind in
     let owner = g.K.KeySource.keys c.args.self.now.source in
     let m = g.S.Store in
@@ -39,7 +39,7 @@ returns-in-default-key g c =
     let free : length before.entries < before.capacity = omega arith in
     let here = c.len-n.ensures.is in
     let has : owner (length before.entries) ≡ Some c.in-Some.before = ap owner (sym here) ∙ sym c.key.ensures ∙ c.in-Some.is in
-    let lacks : owner (length before.entries + 1) ≡ None = ap (λ n. owner (n + 1)) (sym here) ∙ sym c.key-2.ensures ∙ c.in-default-key.is in
+    let lacks : owner (length before.entries + 1) ≡ None = ap (λ n. owner (n + 1)) (sym here) ∙ sym c.key-2.ensures ∙ c.in_default-key.is in
     let does = append_no_after k owner before c.args.line free has lacks in
     record { does = does; spares = λ e. refl; keeps = λ s. s; writes = refl; place = refl; faithful = append_continues k owner m.contents m.sound store store does (λ s. s) }
 

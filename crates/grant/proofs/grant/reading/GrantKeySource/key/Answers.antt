@@ -13,13 +13,13 @@ leaf-seed-requires g c =
     let r = under-inside s.height s.count s.rows c.args.number c.in-Some.row s.sound (sym c.row_over.ensures ∙ c.in-Some.is) in
     omega (arith, r.low)
 
-pub returns-in-default : goal.returns-in-default
-returns-in-default g c =
+pub returns-in_default : goal.returns-in_default
+returns-in_default g c =
     let e = g.C.Cipher.encrypted in
     let width = g.G.Group.width in
     let made = g.G.Group.made in
     let k = c.args.number in
-    let is : None ≡ figures width made (grant_words e (rows_of c.args.self.now)) k = ap (λ (o : Option Row). figured width made (words_from e o k)) c.in-default.ensures in
+    let is : None ≡ figures width made (grant_words e (rows_of c.args.self.now)) k = ap (λ (o : Option Row). figured width made (words_from e o k)) c.in_default.ensures in
     record { is = is; lawful = keeps_to e width made c.args.self.now }
 
 pub returns : goal.returns
