@@ -10,7 +10,7 @@ pub returns-then-s-gt1 : goal.returns-then-s-gt1
 returns-then-s-gt1 c n small e = no_zero c.args.s.now n small e c.if-s-eq48.true c.if-s-gt1.true
 
 pub returns-in_err-n : goal.returns-in_err-n
-returns-in_err-n c = rw c.from-residual.ensures (λ m small e. read_stuck c.args.s.now c.loop-b.b-index c.loop-b.n m (omega arith) c.loop-b.invariant.1 c.in_err-n.ensures small e)
+returns-in_err-n c = rw c.from_residual.ensures (λ m small e. read_stuck c.args.s.now c.loop-b.b-index c.loop-b.n m (omega arith) c.loop-b.invariant.1 c.in_err-n.ensures small e)
 
 pub loop-b-preserved : goal.loop-b-preserved
 loop-b-preserved c =

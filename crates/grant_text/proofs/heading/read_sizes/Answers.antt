@@ -16,12 +16,12 @@ returns-then-rest-lt8 c h k sh sk e =
 pub returns-in_err-height : goal.returns-in_err-height
 returns-in_err-height c =
     let s = c.args.rest.now in
-    rw c.from-residual.ensures (λ h k sh sk e. c.in_err-height.ensures h sh ((sizes-cut s h k e).height ∙ ap (λ w. column w h) (sym (length_part 0 3 s (omega arith)))))
+    rw c.from_residual.ensures (λ h k sh sk e. c.in_err-height.ensures h sh ((sizes-cut s h k e).height ∙ ap (λ w. column w h) (sym (length_part 0 3 s (omega arith)))))
 
 pub returns-in_err-count : goal.returns-in_err-count
 returns-in_err-count c =
     let s = c.args.rest.now in
-    rw c.from-residual-in_err-count.ensures (λ h k sh sk e. c.in_err-count.ensures k sk ((sizes-cut s h k e).count ∙ ap (λ w. column w k) (sym (length_part 3 4 s (omega arith)))))
+    rw c.from_residual-in_err-count.ensures (λ h k sh sk e. c.in_err-count.ensures k sk ((sizes-cut s h k e).count ∙ ap (λ w. column w k) (sym (length_part 3 4 s (omega arith)))))
 
 pub returns : goal.returns
 returns c =

@@ -11,22 +11,22 @@ returns-then-s-ne10 c x words e = c.if-s-ne10.true (row_cut c.args.s.now x c.req
 pub returns-in_err-level : goal.returns-in_err-level
 returns-in_err-level c =
     let s = c.args.s.now in
-    rw c.from-residual.ensures (λ x words e. c.in_err-level.ensures x.level (omega (arith, words.0)) ((row_cut s x c.requires e).level ∙ ap (λ w. column w x.level) (sym (length_part 0 3 s (omega arith)))))
+    rw c.from_residual.ensures (λ x words e. c.in_err-level.ensures x.level (omega (arith, words.0)) ((row_cut s x c.requires e).level ∙ ap (λ w. column w x.level) (sym (length_part 0 3 s (omega arith)))))
 
 pub returns-in_err-index : goal.returns-in_err-index
 returns-in_err-index c =
     let s = c.args.s.now in
-    rw c.from-residual-in_err-index.ensures (λ x words e. c.in_err-index.ensures x.index (omega (arith, words.1)) ((row_cut s x c.requires e).index ∙ ap (λ w. column w x.index) (sym (length_part 3 11 s (omega arith)))))
+    rw c.from_residual-in_err-index.ensures (λ x words e. c.in_err-index.ensures x.index (omega (arith, words.1)) ((row_cut s x c.requires e).index ∙ ap (λ w. column w x.index) (sym (length_part 3 11 s (omega arith)))))
 
 pub returns-in_err-high : goal.returns-in_err-high
 returns-in_err-high c =
     let s = c.args.s.now in
-    rw c.from-residual-in_err-high.ensures (λ x words e. c.in_err-high.ensures x.seed.high words.2 ((row_cut s x c.requires e).high ∙ ap (λ w. column w x.seed.high) (sym (length_part 14 21 s (omega arith)))))
+    rw c.from_residual-in_err-high.ensures (λ x words e. c.in_err-high.ensures x.seed.high words.2 ((row_cut s x c.requires e).high ∙ ap (λ w. column w x.seed.high) (sym (length_part 14 21 s (omega arith)))))
 
 pub returns-in_err-low : goal.returns-in_err-low
 returns-in_err-low c =
     let s = c.args.s.now in
-    rw c.from-residual-in_err-low.ensures (λ x words e. c.in_err-low.ensures x.seed.low words.3 ((row_cut s x c.requires e).low ∙ ap (λ w. column w x.seed.low) (sym (length_part 35 21 s (omega arith)))))
+    rw c.from_residual-in_err-low.ensures (λ x words e. c.in_err-low.ensures x.seed.low words.3 ((row_cut s x c.requires e).low ∙ ap (λ w. column w x.seed.low) (sym (length_part 35 21 s (omega arith)))))
 
 pub overflow_cast-result : goal.overflow_cast-result
 overflow_cast-result c =

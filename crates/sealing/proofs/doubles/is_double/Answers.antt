@@ -5,7 +5,7 @@ use Rattle.sealing.specs.Doubles.{Alike, Fits}
 use Rattle.sealing.proofs.Drift.{shift_next}
 use Rattle.sealing.proofs.Deciding.{Known, known_skip, known-take, fits_since, alike_since, decides}
 use Rattle.sealing.proofs.doubles.is_double.Goals as goal
-use Rattle.sealing.proofs.doubles.is_double.Goals.{then-is-some+else-not-fits, else-is-some}
+use Rattle.sealing.proofs.doubles.is_double.Goals.{then-is_some+else-not-fits, else-is_some}
 
 pub returns-then-lines-others : goal.returns-then-lines-others
 returns-then-lines-others g c =
@@ -44,11 +44,11 @@ loop-i-preserved g c =
     let in-others : i < length others = omega arith in (
       ap k.value next ∙ shift_next k lines others i shift l o c.loop-i-test.true in-others c.index-lines-i.is c.index-others-i.is c.loop-i.invariant.0,
       elim c.if-is_some.branch [
-        | then-is-some+else-not-fits w ↦
+        | then-is_some+else-not-fits w ↦
             let has : Has reader i = sym (w.if-is_some.ensures ∙ ap is_some c.key.ensures) in
             subst (Known k reader lines others (i + 1)) (sym w.last-is)
             (known-take k reader lines others i c.loop-i.last shift c.loop-i.invariant.1 has (w.if-not-fits.ensures.0 refl) c.loop-i.invariant.0)
-        | else-is-some w ↦
+        | else-is_some w ↦
             let lacks : false ≡ is_some (reader i) = w.if-is_some.ensures ∙ ap is_some c.key.ensures in
             subst (Known k reader lines others (i + 1)) (sym w.last-is)
             (known_skip k reader lines others i c.loop-i.last c.loop-i.invariant.1 (λ has. false≢true (lacks ∙ has)))
@@ -79,7 +79,7 @@ returns g c =
     let others = c.args.others.now in
     let i = c.loop-i.i in
     let shift = c.loop-i.shift in
-    let r = c.fits.result in
+    let r = c.fits-2.result in
     let end : i ≡ length others = omega arith in
     let long : length others ≡ length lines = omega arith in
     let last : length lines ≡ i = omega arith in
@@ -87,7 +87,7 @@ returns g c =
     let taken = λ (f : Fits k c.loop-i.last shift). known-take k reader lines others i c.loop-i.last shift c.loop-i.invariant.1 has f c.loop-i.invariant.0 in
     let alike = λ (f : Fits k c.loop-i.last shift). alike_since k reader lines others (Some shift) (subst (λ n. Known k reader lines others (n + 1) (Some shift)) end (taken f)) in
     let sums : (r ≡ true) ↔ ((length others ≡ length lines) × Alike k reader lines others) = (
-      λ e. (long, alike (c.fits.ensures.0 e)),
-      λ s. c.fits.ensures.1 (fits_since k reader lines others i c.loop-i.last shift (omega arith) c.loop-i.invariant.1 has c.loop-i.invariant.0 s.1),
+      λ e. (long, alike (c.fits-2.ensures.0 e)),
+      λ s. c.fits-2.ensures.1 (fits_since k reader lines others i c.loop-i.last shift (omega arith) c.loop-i.invariant.1 has c.loop-i.invariant.0 s.1),
     ) in
     decides k reader lines others r sums

@@ -20,8 +20,8 @@ use Rattle.grant.proofs.grant.Grant.add_row.Goals as goal
 pub returns-in_err-check_next : goal.returns-in_err-check_next
 returns-in_err-check_next g c =
     let s = c.args.self.now in
-    let q = err_from_is_err_and c.from-residual.result c.from-residual.ensures.1 in
-    let is : c.from-residual.result ≡ Err c.in_err-check_next.field-0.0 = q.1 ∙ ap Err q.2 in
+    let q = err_from_is_err_and c.from_residual.result c.from_residual.ensures.1 in
+    let is : c.from_residual.result ≡ Err c.in_err-check_next.field-0.0 = q.1 ∙ ap Err q.2 in
     let told = added_refused s c.args.row c.node.result c.node-2.result c.node.ensures c.node-2.ensures c.in_err-check_next.field-0.0 c.in_err-check_next.ensures.answers in
     record { answers = is ∙ sym told; height = refl; rows = sym (ap (λ (r : Answer). left_by r (rows_of s) (rows_of s ++ (c.args.row ∷ []))) is); kept = λ why e. refl }
 

@@ -16,7 +16,7 @@ returns-in_err-check_spans g c =
     let words = length c.args.scratch.now in
     let before = c.args.grant.now in
     let why = c.in_err-check_spans.field-0.0 in
-    let q = err_from_is_err_and c.from-residual.result c.from-residual.ensures.1 in
+    let q = err_from_is_err_and c.from_residual.result c.from_residual.ensures.1 in
     let fault = span_fault words t.height c.args.spans.now c.if-scratch-lt66.false (omega arith) (omega arith) e t.root before why c.in_err-check_spans.ensures in
     subst (λ (r : Answer). Issues e t.height t.root c.args.spans.now words before r before) (sym (q.1 ∙ ap Err q.2)) fault
 

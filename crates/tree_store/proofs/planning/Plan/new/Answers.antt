@@ -34,8 +34,8 @@ loop-width-preserved c =
     let on = climb-more c.loop-width.invariant.1 c.loop-width.invariant.0 c.loop-width-test.true in
     (c.loop-width.invariant.0, simp (c.div_ceil-width.ensures, add-one) on)
 
-pub returns-then-cells_needed : goal.returns-then-cells_needed
-returns-then-cells_needed c =
+pub returns-then-cells-needed : goal.returns-then-cells-needed
+returns-then-cells-needed c =
     let e = climb-cells c.loop-width.invariant.1 c.loop-width-test.false in
     record {
       refuses = short_of c.args.fan_out c.args.capacity c.args.cells c.if-fan_out-lt2.false c.if-fan_out-gt64.false c.if-capacity-lt1.false c.if-capacity-gt-MAX_CAPACITY.false (omega arith);
@@ -46,7 +46,12 @@ pub invariant_of-result : goal.invariant_of-result
 invariant_of-result c =
     let e = climb-cells c.loop-width.invariant.1 c.loop-width-test.false in
     let f = climb_last c.loop-width.invariant.1 c.loop-width-test.false in
-    ((c.if-fan_out-lt2.false, c.if-fan_out-gt64.false), ((c.if-capacity-lt1.false, c.if-capacity-gt-MAX_CAPACITY.false), (omega arith, (e, tt))))
+    record {
+      fanned = (c.if-fan_out-lt2.false, c.if-fan_out-gt64.false);
+      sized = (c.if-capacity-lt1.false, c.if-capacity-gt-MAX_CAPACITY.false);
+      levelled = omega arith;
+      counted = e;
+    }
 
 pub returns : goal.returns
 returns c =
