@@ -63,7 +63,7 @@ fn seed_rows<C: Cipher>(
     requires sized { length rows.old ≡ 128 }
     ensures long { length rows.new ≡ 128 }
     ensures clear { BlankAfter (length nodes.now) rows.new }
-    ensures made { take (length nodes.now) rows.new ≡ map (seeded encrypted root height) nodes.now }
+    ensures made { take (length nodes.now) rows.new ≡ map (seeded C.encrypted root height) nodes.now }
 {
     clear_rows(rows);
     for i in 0..nodes.len() {
@@ -84,7 +84,7 @@ fn issue_with<C: Cipher>(
     scratch: &mut [u64],
     grant: &mut Grant<C>,
 ) -> Result<(), Refusal>
-    ensures { Issues encrypted tree.now.height tree.now.root spans.now (length scratch.old) grant.old result grant.new }
+    ensures { Issues C.encrypted tree.now.height tree.now.root spans.now (length scratch.old) grant.old result grant.new }
 {
     if scratch.len() < 66 {
         return Err(Refusal::ShortScratch);
@@ -114,8 +114,8 @@ fn issue_lawfully<C: Cipher>(
     scratch: &mut [u64],
     grant: &mut Grant<C>,
 ) -> Result<(), Refusal>
-    ensures does { Issues encrypted tree.now.height tree.now.root spans.now (length scratch.old) grant.old result grant.new }
-    ensures lawful { Continues encrypted grant.old (issued tree.now.height tree.now.root spans.now (length scratch.old) result) grant.new }
+    ensures does { Issues C.encrypted tree.now.height tree.now.root spans.now (length scratch.old) grant.old result grant.new }
+    ensures lawful { Continues C.encrypted grant.old (issued tree.now.height tree.now.root spans.now (length scratch.old) result) grant.new }
     ensures covers { CoverIsOne }
 {
     issue_with(tree, spans, scratch, grant)
@@ -128,8 +128,8 @@ pub fn issue<C: Cipher>(
     scratch: &mut [u64],
     grant: &mut Grant<C>,
 ) -> Result<(), Refusal>
-    ensures does { Issues encrypted tree.now.height tree.now.root spans.now (length scratch.old) grant.old result grant.new }
-    ensures lawful { Continues encrypted grant.old (issued tree.now.height tree.now.root spans.now (length scratch.old) result) grant.new }
+    ensures does { Issues C.encrypted tree.now.height tree.now.root spans.now (length scratch.old) grant.old result grant.new }
+    ensures lawful { Continues C.encrypted grant.old (issued tree.now.height tree.now.root spans.now (length scratch.old) result) grant.new }
     ensures covers { CoverIsOne }
     ensures wiped { scratch.new ≡ replicate (length scratch.old) 0 }
 {

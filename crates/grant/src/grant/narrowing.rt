@@ -38,7 +38,7 @@ impl<C: Cipher> Grant<C> {
     fn lower(&self, node: Node, scratch: &mut [u64]) -> Block
         requires room { 66 ≤ length scratch.old }
         requires placed { Placed (rows_of self.now) node }
-        ensures { result ≡ seed_from encrypted (row_over (rows_of self.now) (first_key node)) node }
+        ensures { result ≡ seed_from C.encrypted (row_over (rows_of self.now) (first_key node)) node }
     {
         match self.row_over(node.index << node.level) {
             Some(row) => descend::<C>(row.seed, row.level - node.level, node.index, scratch),
@@ -53,7 +53,7 @@ impl<C: Cipher> Grant<C> {
         requires placed { (i : ℕ) → i < length nodes.now → Placed (rows_of self.now) (slice_index_or nodes.now i (node_at 0 0)) }
         ensures long { length result ≡ 128 }
         ensures clear { BlankAfter (length nodes.now) result }
-        ensures made { take (length nodes.now) result ≡ map (lowered encrypted (rows_of self.now)) nodes.now }
+        ensures made { take (length nodes.now) result ≡ map (lowered C.encrypted (rows_of self.now)) nodes.now }
     {
         let mut rows = [Row {
             level: 0,
@@ -79,7 +79,7 @@ fn narrow_with<C: Cipher>(
     span: Span,
     scratch: &mut [u64],
 ) -> Result<(), Refusal>
-    ensures { Narrows encrypted span (length scratch.old) grant.old result grant.new }
+    ensures { Narrows C.encrypted span (length scratch.old) grant.old result grant.new }
 {
     if scratch.len() < 66 {
         return Err(Refusal::ShortScratch);
@@ -116,8 +116,8 @@ fn narrow_lawfully<C: Cipher>(
     span: Span,
     scratch: &mut [u64],
 ) -> Result<(), Refusal>
-    ensures does { Narrows encrypted span (length scratch.old) grant.old result grant.new }
-    ensures lawful { Continues encrypted grant.old (narrowed span (length scratch.old) result) grant.new }
+    ensures does { Narrows C.encrypted span (length scratch.old) grant.old result grant.new }
+    ensures lawful { Continues C.encrypted grant.old (narrowed span (length scratch.old) result) grant.new }
     ensures covers { CoverIsOne }
     ensures nothing { NoRowsNoKeys }
 {
@@ -130,8 +130,8 @@ pub fn narrow<C: Cipher>(
     span: Span,
     scratch: &mut [u64],
 ) -> Result<(), Refusal>
-    ensures does { Narrows encrypted span (length scratch.old) grant.old result grant.new }
-    ensures lawful { Continues encrypted grant.old (narrowed span (length scratch.old) result) grant.new }
+    ensures does { Narrows C.encrypted span (length scratch.old) grant.old result grant.new }
+    ensures lawful { Continues C.encrypted grant.old (narrowed span (length scratch.old) result) grant.new }
     ensures covers { CoverIsOne }
     ensures nothing { NoRowsNoKeys }
     ensures wiped { scratch.new ≡ replicate (length scratch.old) 0 }

@@ -41,7 +41,15 @@ invariant_of-self g c =
     let s = c.args.self.now in
     let room : s.count < length s.rows = omega arith in
     let good = added_sound_grant s c.args.row c.node.result c.node-2.result c.node.ensures c.node-2.ensures room (sym c.in_ok-check_next.ensures.answers) in
-    (s.low, (s.high, (length-set s.rows s.count c.args.row ∙ s.sized, (omega arith, (omega arith, (good, (behind_one s.rows s.count c.args.row zero_row s.clear, tt)))))))
+    record {
+      low = s.low;
+      high = s.high;
+      sized = length-set s.rows s.count c.args.row ∙ s.sized;
+      some = omega arith;
+      fits = omega arith;
+      sound = good;
+      clear = behind_one s.rows s.count c.args.row zero_row s.clear;
+    }
 
 pub returns : goal.returns
 returns g c =

@@ -5,4 +5,12 @@ use Rattle.grant.proofs.grant.Grant.of_row.Goals as goal
 pub invariant_of-result : goal.invariant_of-result
 invariant_of-result g c =
     let h = first-passed c.args.height c.args.row c.node.result c.node.ensures (sym c.in_ok-check_next.ensures.answers) in
-    (h.0, (h.1, (refl, (omega arith, (omega arith, (h.2, (refl, tt)))))))
+    record {
+      low = h.0;
+      high = h.1;
+      sized = refl;
+      some = omega arith;
+      fits = omega arith;
+      sound = h.2;
+      clear = refl;
+    }

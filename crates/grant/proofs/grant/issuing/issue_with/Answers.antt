@@ -47,7 +47,15 @@ invariant_of-grant g c =
     let rows : nodes ≡ spans_rows t.height ss = c.as_slice-nodes.ensures.nodes ∙ c.if-not-cut_spans.ensures ∙ ap (λ (x : List Node). x ++ spans_rows t.height ss) c.new-nodes.ensures in
     let made : take (length nodes) c.seed_rows.new.rows ≡ map (seeded e t.root t.height) (spans_rows t.height ss) = c.seed_rows.ensures.made ∙ ap (map (seeded e t.root t.height)) rows in
     let some = some-rows (length c.args.scratch.now) t.height ss c.if-scratch-lt66.false (omega arith) (omega arith) c.in_ok-check_spans.ensures in
-    (omega arith, (omega arith, (c.seed_rows.ensures.long, (omega (arith, ap length rows), (c.as_slice-nodes.ensures.few, (made_sound (length c.args.scratch.now) t.height ss c.if-scratch-lt66.false (omega arith) (omega arith) c.in_ok-check_spans.ensures e t.root (length nodes) c.seed_rows.new.rows made, (c.seed_rows.ensures.clear, tt)))))))
+    record {
+      low = omega arith;
+      high = omega arith;
+      sized = c.seed_rows.ensures.long;
+      some = omega (arith, ap length rows);
+      fits = c.as_slice-nodes.ensures.few;
+      sound = made_sound (length c.args.scratch.now) t.height ss c.if-scratch-lt66.false (omega arith) (omega arith) c.in_ok-check_spans.ensures e t.root (length nodes) c.seed_rows.new.rows made;
+      clear = c.seed_rows.ensures.clear;
+    }
 
 pub returns : goal.returns
 returns g c =
