@@ -79,7 +79,7 @@ fn compare(made: Block, answer: Block) -> Verdict
 
 // What the line says of the cipher C.
 pub fn judge<C: Cipher>(line: &[u8]) -> Verdict
-    ensures { result ≡ verdict encrypted line.now }
+    ensures { result ≡ verdict C.encrypted line.now }
 {
     if is_comment(line) {
         return Verdict::Comment;
@@ -141,7 +141,7 @@ impl Tally {
 
 // The tally of a whole text, line by line.
 pub fn tally_of<C: Cipher>(text: &[u8]) -> Tally
-    ensures { result ≡ tallied encrypted text.now }
+    ensures { result ≡ tallied C.encrypted text.now }
 {
     let mut tally = Tally::new();
     let mut start = 0;

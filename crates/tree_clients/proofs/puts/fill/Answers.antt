@@ -18,12 +18,12 @@ returns g c =
     let s1 = c.put_all.new.store in
     let new = c.new-store.ensures in
     let all = c.put_all.ensures in
-    let last : c.cells·1.given.0 ≡ s1.cells.now = c.cells·1.given.1.1 (sym (all.place ∙ new.place)) in
+    let last : c.cells-1.given.0 ≡ s1.cells.now = c.cells-1.given.1.1 (sym (all.place ∙ new.place)) in
     let whole : capacity - 0 ≡ capacity = omega arith in
     let row : (tree s1).entries ≡ take capacity figures = ap (λ t. t.entries) (all.leaves ∙ ap (λ t. filled t figures) new.begins) ∙ ap (λ m. take m figures) whole in
     let count = c.len.ensures.is ∙ ap length row ∙ length-take capacity figures in
     let places-0 = ap (λ t. t.capacity) new.begins in
-    let spares : length cells < p.cells → c.cells·1.given.0 ≡ cells = λ few.
+    let spares : length cells < p.cells → c.cells-1.given.0 ≡ cells = λ few.
     last ∙ all.spares (places-0 ∙ short p (length cells) few) ∙ new.touches ∙ begun-short p kind.zero cells few in
     record {
       count = count;

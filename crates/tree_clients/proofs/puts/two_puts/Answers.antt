@@ -19,7 +19,7 @@ returns g c =
     let h2 = c.put-2.ensures in
     let x = c.args.x in
     let y = c.args.y in
-    let last : c.cells·1.given.0 ≡ s2.cells.now = c.cells·1.given.1.1 (sym (h2.place ∙ h1.place ∙ h0.place)) in
+    let last : c.cells-1.given.0 ≡ s2.cells.now = c.cells-1.given.1.1 (sym (h2.place ∙ h1.place ∙ h0.place)) in
     let none : length (tree s0).entries ≡ 0 = ap (λ t. length t.entries) h0.begins in
     let places-0 = ap (λ t. t.capacity) h0.begins in
     record {
