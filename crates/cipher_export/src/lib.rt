@@ -5,18 +5,18 @@ ghost use Rattle.std.specs.Prelude.{◌≡◌};
 ghost use Rattle.cipher.specs.Aes.{aes};
 ghost use Rattle.cipher.specs.Speck.{speck};
 
-use cipher::{Block, Cipher};
+use cipher::{Aes128, Block, Cipher, Speck128};
 
 #[unsafe(no_mangle)]
 pub extern "C" fn cipher_aes128_encrypt(key: Block, block: Block) -> Block
     ensures { result ≡ aes key block }
 {
-    <cipher::Aes128 as cipher::Cipher>::encrypt(key, block)
+    Aes128::encrypt(key, block)
 }
 
 #[unsafe(no_mangle)]
 pub extern "C" fn cipher_speck128_encrypt(key: Block, block: Block) -> Block
     ensures { result ≡ speck key block }
 {
-    <cipher::Speck128 as cipher::Cipher>::encrypt(key, block)
+    Speck128::encrypt(key, block)
 }

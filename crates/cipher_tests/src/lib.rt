@@ -7,7 +7,7 @@ ghost use Rattle.std.specs.Prelude.{◌≡◌};
 use cipher::{Block, Cipher};
 
 pub fn encrypt_by<C: Cipher>(key: Block, block: Block) -> Block
-    ensures { result ≡ encrypted key block }
+    ensures { result ≡ C.encrypted key block }
 {
     C::encrypt(key, block)
 }
@@ -15,7 +15,7 @@ pub fn encrypt_by<C: Cipher>(key: Block, block: Block) -> Block
 #[cfg(test)]
 mod tests {
     use super::*;
-    use cipher::figures_stand;
+    use cipher::{Aes128, Speck128, figures_stand};
 
     const AES_KEY: Block = Block {
         high: 0x0001020304050607,
@@ -49,28 +49,19 @@ mod tests {
 
     #[test]
     fn aes_gives_the_published_block(rt: HostRuntime) {
-        assert_eq!(rt;
-            <cipher::Aes128 as Cipher>::encrypt(AES_KEY, AES_BLOCK),
-            AES_ANSWER
-        );
+        assert_eq!(rt; Aes128::encrypt(AES_KEY, AES_BLOCK), AES_ANSWER);
     }
 
     #[test]
     fn speck_gives_the_published_block(rt: HostRuntime) {
-        assert_eq!(rt;
-            <cipher::Speck128 as Cipher>::encrypt(SPECK_KEY, SPECK_BLOCK),
-            SPECK_ANSWER
-        );
+        assert_eq!(rt; Speck128::encrypt(SPECK_KEY, SPECK_BLOCK), SPECK_ANSWER);
     }
 
     #[test]
     fn generic_code_gives_both(rt: HostRuntime) {
+        assert_eq!(rt; encrypt_by::<Aes128>(AES_KEY, AES_BLOCK), AES_ANSWER);
         assert_eq!(rt;
-            encrypt_by::<cipher::Aes128>(AES_KEY, AES_BLOCK),
-            AES_ANSWER
-        );
-        assert_eq!(rt;
-            encrypt_by::<cipher::Speck128>(SPECK_KEY, SPECK_BLOCK),
+            encrypt_by::<Speck128>(SPECK_KEY, SPECK_BLOCK),
             SPECK_ANSWER
         );
     }
