@@ -5,7 +5,7 @@
 set -eu
 cd "$(dirname "$0")/.."
 out=$PWD/target/bench
-rt staticlib cipher_export
+(cd crates/cipher_export && rt lib)
 mkdir -p "$out"
 
 # The tables of the C version are those of the library's source.
@@ -19,6 +19,6 @@ awk '
 gcc -O3 -Wall -Wextra -DPREFIX=gcc -I "$out" -c bench/shape.c -o "$out/shape_gcc.o"
 clang -O3 -Wall -Wextra -DPREFIX=clang -I "$out" -c bench/shape.c -o "$out/shape_clang.o"
 gcc -O3 -Wall -Wextra -Wno-deprecated-declarations bench/ciphers.c "$out/shape_gcc.o" "$out/shape_clang.o" \
-    target/staticlib/libcipher_export.a -lcrypto -o "$out/ciphers"
+    crates/cipher_export/out/libcipher_export.a -lcrypto -o "$out/ciphers"
 echo "$(lscpu | sed -n 's/^Model name: *//p'), $(gcc --version | head -n 1), $(clang --version | head -n 1), $(openssl version)"
 "$out/ciphers"

@@ -3,8 +3,8 @@
 # One run on this machine, printed as ratios. It is no test: what it prints depends on the machine and its load.
 set -e
 cd "$(dirname "$0")/.."
-rt staticlib bench_totals > /dev/null
+(cd crates/bench_totals && rt lib) > /dev/null
 out=$(mktemp -d)
 trap 'rm -rf "$out"' EXIT
-"${CC:-cc}" -O3 -o "$out/totals" bench/totals.c target/staticlib/libbench_totals.a
+"${CC:-cc}" -O3 -o "$out/totals" bench/totals.c crates/bench_totals/out/libbench_totals.a
 "$out/totals"
