@@ -1,5 +1,5 @@
 -- What follows, for two appends and an open, from the laws of each. Assumes nothing.
-use Rattle.std.proofs.Common.{◌≡◌, ℕ, ◌<◌, ◌≤◌, min, true, leb, ◌↔◌, List, [], ◌∷◌, length, is_some, is_ok, Some, None, Ok, Err, Result, sym, refl, ap, ◌∙◌, inl, inr, arith}
+use Rattle.std.proofs.Common.{◌≡◌, ℕ, ◌<◌, ◌≤◌, min, true, leb, ◌↔◌, List, [], ◌∷◌, length, is_some, is_ok, Some, None, Ok, Err, Result, sym, ap, ◌∙◌, inl, inr, arith}
 use Rattle.std.proofs.lemmas.Bool.{false≢true, not-false, not_from_true, leb-false, lt-leb, cases_lt}
 use Rattle.refusal.specs.Judged.{Rules, first, refusal}
 use Rattle.refusal.specs.declared.Refusal.{Refusal}

@@ -1,8 +1,7 @@
 -- What is cut is the rows of the set. Assumes nothing.
-use Rattle.std.proofs.Common.{◌≡◌, ℕ, zero, suc, ◌+◌, ◌-◌, ◌*◌, ◌/◌, ◌^◌, ◌<◌, ◌≤◌, Bool, true, false, ◌&&◌, ◌||◌, ltb, leb, ◌⊎◌, List, [], ◌∷◌, ◌++◌, sym, refl, ap, ◌∙◌, subst, inl, inr, ⊎_elim, mul_assoc, mul_comm, add-mul, arith, pow_pos, pow-add}
+use Rattle.std.proofs.Common.{◌≡◌, ℕ, zero, suc, ◌+◌, ◌-◌, ◌*◌, ◌/◌, ◌^◌, ◌<◌, ◌≤◌, true, false, ltb, leb, ◌⊎◌, List, [], ◌∷◌, sym, refl, ap, ◌∙◌, subst, inl, inr, ⊎_elim, add-mul, arith, pow_pos, pow-add}
 use mathlib.Core.List.Memᴰ
 use mathlib.Core.List.{Memᴰ}
-use Rattle.std.specs.List.{flat_map}
 use Rattle.std.proofs.lemmas.Nat.{mul-le}
 use Rattle.std.proofs.lemmas.Bool.{cases_Bool, cases_lt, both_ways, leb-true, le-leb, ltb-true, lt-ltb, lt-leb, le-ltb, or_cases, or_from, or_left, or_right, and_parts, and_from, and_left, and_right}
 use Rattle.cover.specs.declared.node.Node.{Node}
@@ -11,7 +10,7 @@ use Rattle.cover.specs.Tree.{first_key, past, parent, KeySet, Whole, RowOf, Risi
 use Rattle.cover.specs.Cut.{node, cut, spans_rows, left_rows}
 use Rattle.cover.proofs.Geometry.{pow-next, climb, climb-parent, climb-level, climb-first, climb-past, first_past, same-node}
 use Rattle.cover.proofs.Cuts.{CutRow, cut_row, cut_has, cut-rising, cut-between, rising-lower, rising-append}
-use Rattle.cover.proofs.Members.{from_joined, in_joined, rising_member, same_members}
+use Rattle.cover.proofs.Members.{from_joined, in_joined, same_members}
 
 -- A set of keys has one list of rows.
 pub cover_unique : (height : ℕ) (keys : KeySet) (ms ns : List Node) → Cover height keys ms → Cover height keys ns → ms ≡ ns

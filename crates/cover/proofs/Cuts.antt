@@ -1,5 +1,5 @@
 -- What the cutting of a node by a span gives. Assumes nothing.
-use Rattle.std.proofs.Common.{◌≡◌, ℕ, zero, suc, ◌+◌, ◌-◌, ◌*◌, ◌^◌, ◌<◌, ◌≤◌, Bool, true, false, cond, leb, ◌⊎◌, List, [], ◌∷◌, ◌++◌, sym, refl, ap, ◌∙◌, subst, inl, inr, ⊎_elim, arith, pow_pos}
+use Rattle.std.proofs.Common.{◌≡◌, ℕ, zero, suc, ◌+◌, ◌-◌, ◌*◌, ◌^◌, ◌<◌, ◌≤◌, true, false, cond, leb, ◌⊎◌, List, [], ◌∷◌, ◌++◌, sym, refl, ap, ◌∙◌, subst, inl, inr, ⊎_elim, arith, pow_pos}
 use mathlib.Core.List.Memᴰ
 use mathlib.Core.List.{Memᴰ}
 use Rattle.std.proofs.lemmas.Nat.{mul-le}
@@ -7,7 +7,7 @@ use Rattle.std.proofs.lemmas.Bool.{cond_both, both_ways, leb-true, leb-false, le
 use Rattle.cover.specs.declared.node.Node.{Node}
 use Rattle.cover.specs.Tree.{first_key, past, parent, Rising}
 use Rattle.cover.specs.Cut.{node, outside, within, cut}
-use Rattle.cover.proofs.Geometry.{climb, climb-parent, climb-level, climb-first, climb-past, first_past, halves, parent-left, parent-right, first_left, past-right}
+use Rattle.cover.proofs.Geometry.{climb, climb-parent, climb-first, climb-past, first_past, halves, parent-left, parent-right, first_left, past-right}
 
 apart_from : (from to : ℕ) (n : Node) → outside from to n ≡ true → (to ≤ first_key n) ⊎ (past n ≤ from)
 apart_from from to n e = ⊎_elim (λ (h : leb to (first_key n) ≡ true). inl (leb-true to (first_key n) h)) (λ (h : leb (past n) from ≡ true). inr (leb-true (past n) from h)) (or_cases (leb to (first_key n)) (leb (past n) from) e)

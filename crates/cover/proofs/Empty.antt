@@ -3,7 +3,7 @@ use Rattle.std.proofs.Common.{◌≡◌, ℕ, ◌^◌, ◌<◌, false, List, [],
 use mathlib.Core.List.Memᴰ
 use Rattle.std.proofs.lemmas.Bool.{both_ways}
 use Rattle.cover.specs.declared.node.Node.{Node}
-use Rattle.cover.specs.Tree.{Cover, KeySet, first_key, NoRowsNoKeys}
+use Rattle.cover.specs.Tree.{Cover, first_key, NoRowsNoKeys}
 use Rattle.cover.proofs.Geometry.{first_past}
 use Rattle.cover.proofs.Held.{held-keys}
 

@@ -1,16 +1,15 @@
 -- Sound rows are the rows of the keys under them. Assumes nothing.
-use Rattle.std.proofs.Common.{◌≡◌, ℕ, zero, suc, ◌+◌, ◌-◌, ◌*◌, ◌/◌, ◌^◌, ◌<◌, ◌≤◌, Bool, true, false, not, ◌&&◌, ◌||◌, eqb, ltb, leb, ◌⊎◌, List, [], ◌∷◌, ◌++◌, sym, refl, ap, ◌∙◌, subst, inl, inr, ⊎_elim, add-mul, arith, pow_pos}
+use Rattle.std.proofs.Common.{◌≡◌, ℕ, zero, suc, ◌+◌, ◌*◌, ◌^◌, ◌<◌, ◌≤◌, Bool, true, false, ltb, leb, ◌⊎◌, List, [], ◌∷◌, sym, refl, ap, ◌∙◌, subst, inl, inr, ⊎_elim, add-mul, arith}
 use mathlib.Core.List.Memᴰ
 use mathlib.Core.List.{Memᴰ}
 use native.Mathlib.Nat.{div-eq_of_lt-le}
 use lib.Pow.{pow-lt}
-use Rattle.std.specs.List.{list_all}
-use Rattle.std.proofs.lemmas.Bool.{cases_Bool, cases_lt, both_ways, leb-true, le-leb, ltb-true, lt-ltb, eq-eqb, eqb-true, or_cases, or_left, or_right, and_parts, and_from, not-true, not_from_false}
+use Rattle.std.proofs.lemmas.Bool.{cases_lt, both_ways, leb-true, le-leb, ltb-true, lt-ltb, or_cases, or_left, or_right, and_parts, and_from}
 use Rattle.cover.specs.declared.node.Node.{Node}
-use Rattle.cover.specs.Tree.{first_key, past, parent, KeySet, Whole, RowOf, Rising, Cover, stands, held, rising, halves, is_distinct, sound}
+use Rattle.cover.specs.Tree.{first_key, past, parent, KeySet, Whole, RowOf, Rising, Cover, stands, held}
 use Rattle.cover.specs.Cut.{node}
 use Rattle.cover.proofs.Geometry.{climb, climb-parent, climb-level, climb-first, climb-past, first_past, same-node, first_left, past-right, parent-left, parent-right}
-use Rattle.cover.proofs.Covers.{under_whole, row-above, climb-inside}
+use Rattle.cover.proofs.Covers.{under_whole, row-above}
 use Rattle.cover.proofs.Members.{rising_member}
 
 pub from-held : (ns : List Node) (k : ℕ) → held ns k ≡ true → (n : Node) × Memᴰ n ns × (first_key n ≤ k) × (k < past n)

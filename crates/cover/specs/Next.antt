@@ -1,6 +1,5 @@
 -- Which node may stand as the next row of a grant. Assumes nothing.
 use Rattle.std.specs.Prelude.{◌≡◌, ℕ, ◌-◌, ◌^◌, Bool, true, not, ◌&&◌, ◌↔◌, List, [], ◌∷◌, ◌++◌, Some, None, Option, nat_le, nat_lt}
-use Rattle.refusal.specs.declared.Refusal.{Refusal}
 use Rattle.refusal.specs.declared.Refusal.TheVariants.{Height, RowPlace, RowOrder, RowHalves}
 use Rattle.refusal.specs.Judged.{Rules, first}
 use Rattle.cover.specs.declared.node.Node.{Node}

@@ -1,5 +1,5 @@
 -- What is printed of a figure, as the bytes of its text. Assumes nothing.
-use Rattle.std.specs.Prelude.{ℕ, ◌-◌, ◌^◌, cond, List, ◌∷◌, ◌++◌, codes, decimal, nat_lt}
+use Rattle.std.specs.Prelude.{ℕ, ◌-◌, ◌^◌, cond, List, ◌++◌, codes, decimal, nat_lt}
 use Rattle.group.specs.declared.modular.Count.{Count}
 use Rattle.group.specs.declared.tally.Moments.{Moments}
 use Rattle.group.specs.declared.xor.Flags.{Flags}

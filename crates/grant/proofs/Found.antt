@@ -1,15 +1,15 @@
 -- The row over a key. Assumes nothing.
-use Rattle.std.proofs.Common.{◌≡◌, ℕ, zero, suc, ◌+◌, ◌*◌, ◌/◌, ◌^◌, ◌<◌, ◌≤◌, Bool, true, false, cond, ltb, leb, List, [], ◌∷◌, map, length, get_or, take, drop, Some, None, Option, sym, refl, ap, ◌∙◌, subst, arith, drop_of_length-le, drop-cons, pow_pos}
+use Rattle.std.proofs.Common.{◌≡◌, ℕ, zero, suc, ◌+◌, ◌*◌, ◌/◌, ◌^◌, ◌<◌, ◌≤◌, Bool, true, false, cond, ltb, leb, List, [], ◌∷◌, map, length, get_or, take, drop, Some, None, sym, refl, ap, ◌∙◌, subst, arith, drop_of_length-le, drop-cons, pow_pos}
 use mathlib.Core.List.Memᴰ
 use mathlib.Core.List.{Memᴰ}
 use native.Mathlib.Nat.{div-eq_of_lt-le}
+use Rattle.std.proofs.Math.ListN.{get_or-map}
 use Rattle.std.proofs.lemmas.Nat.{shr_split, mod_below}
 use Rattle.std.proofs.lemmas.List.{length-take-le, get_or-take}
 use Rattle.std.proofs.lemmas.Bool.{cond-true, cond-false, cases_Bool, leb-true, ltb-true, le-leb, lt-ltb, and_parts, and_from}
 use Rattle.cover.specs.declared.node.Node.{Node}
-use Rattle.cover.specs.Tree.{first_key, past, stands, held, Cover, RowOf, sound}
+use Rattle.cover.specs.Tree.{first_key, past, stands, held, RowOf}
 use Rattle.cover.proofs.Sound.{sound-cover}
-use Rattle.cipher.specs.declared.Block.{Block}
 use Rattle.grant.specs.declared.grant.row.Row.{Row}
 use Rattle.grant.specs.Rows.{node_of, sound_rows}
 use Rattle.grant.specs.Grants.{row_over}
@@ -74,10 +74,5 @@ pub under-inside : (height count : ℕ) (rows : List Row) (k : ℕ) (r : Row) �
 under-inside height count rows k r e u =
     (sound-cover height (map node_of (take count rows)) e).row (node_of r) (member_map node_of (take count rows) r (under_member (take count rows) k r u).0)
 
-get_d_map : {X Y : Type 0} (f : X → Y) (xs : List X) (i : ℕ) (d : X) → get_or (map f xs) i (f d) ≡ f (get_or xs i d)
-get_d_map f [] i d = refl
-get_d_map f (x ∷ xs) zero d = refl
-get_d_map f (x ∷ xs) (suc i) d = get_d_map f xs i d
-
 pub node_at : (count : ℕ) (rows : List Row) (i : ℕ) → i < count → get_or (map node_of (take count rows)) i (node_of no_row) ≡ node_of (get_or rows i no_row)
-node_at count rows i h = get_d_map node_of (take count rows) i no_row ∙ ap node_of (get_or-take count rows i no_row h)
+node_at count rows i h = get_or-map node_of (take count rows) i no_row ∙ ap node_of (get_or-take count rows i no_row h)

@@ -1,12 +1,12 @@
 -- What an issue comes to. Assumes nothing.
-use Rattle.std.proofs.Common.{◌≡◌, ℕ, ◌+◌, ◌-◌, ◌^◌, ◌<◌, ◌≤◌, Bool, true, false, cond, ◌||◌, eqb, ltb, leb, ◌⊎◌, List, [], ◌∷◌, ◌++◌, map, length, take, Ok, Err, Result, sym, refl, ap, ◌∙◌, subst, inl, inr, ⊎_elim, arith}
+use Rattle.std.proofs.Common.{◌≡◌, ℕ, ◌+◌, ◌-◌, ◌^◌, ◌<◌, ◌≤◌, true, cond, eqb, ltb, leb, List, [], ◌∷◌, ◌++◌, map, length, take, Ok, Err, sym, refl, ap, ◌∙◌, subst, arith}
 use mathlib.Core.List.{Memᴰ}
 use Rattle.refusal.specs.declared.Refusal.{Refusal}
 use Rattle.refusal.specs.declared.Refusal.TheVariants.{EmptySpan, SpanPastEnd, SpanNotAbove, NoSpans, TooManySpans, TooManyRows, ShortScratch}
-use Rattle.std.proofs.lemmas.Bool.{cases_Bool, both_ways, cond-true, cond-false, leb-false, ltb-false, le-ltb, lt-ltb, ne_eqb, or_left, le-leb, and_from}
+use Rattle.std.proofs.lemmas.Bool.{both_ways, cond-true, cond-false, leb-false, ltb-false, le-ltb, lt-ltb, ne_eqb, or_left, le-leb, and_from}
 use Rattle.cover.specs.declared.node.Node.{Node}
 use Rattle.cover.specs.declared.node.Span.{Span}
-use Rattle.cover.specs.Tree.{Cover, held, named, named_by, Spaced, sound}
+use Rattle.cover.specs.Tree.{Cover, named, named_by, Spaced, sound}
 use Rattle.cover.specs.Cut.{spans_rows}
 use Rattle.cover.proofs.Covers.{cover_unique, spans_cover}
 use Rattle.cover.proofs.Held.{held-keys}
@@ -18,7 +18,7 @@ use Rattle.grant.specs.Seeds.{Encrypted, walk}
 use Rattle.grant.specs.Rows.{node_of, sound_rows}
 use Rattle.grant.specs.Rules.{span_rules, issue_rules}
 use Rattle.grant.proofs.Verdicts.{verdict, judged-found, judged-rest, judged-none}
-use Rattle.grant.specs.Grants.{rows_of, nodes_of, Holds, seeded}
+use Rattle.grant.specs.Grants.{rows_of, seeded}
 use Rattle.grant.specs.Calls.{Issues}
 use Rattle.grant.proofs.Filled.{from-map, map_back}
 

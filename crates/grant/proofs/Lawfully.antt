@@ -1,12 +1,10 @@
 -- The law of histories, call by call. Assumes nothing.
-use Rattle.std.proofs.Common.{◌≡◌, ℕ, ◌+◌, ◌-◌, ◌^◌, ◌<◌, ◌≤◌, true, List, [], ◌∷◌, length, Some, None, Ok, Err, Option, sym, refl, ap, ◌∙◌, subst, arith}
-use mathlib.Core.List.{Memᴰ}
-use Rattle.refusal.specs.declared.Refusal.{Refusal}
+use Rattle.std.proofs.Common.{◌≡◌, ℕ, ◌+◌, ◌-◌, ◌^◌, ◌<◌, List, ◌∷◌, length, Some, None, Ok, Err, Option, sym, refl, ap, ◌∙◌, subst, arith}
 use Rattle.refusal.specs.Judged.{judged}
 use Rattle.refusal.proofs.Judging.{some-none}
 use Rattle.cover.specs.declared.node.Node.{Node}
 use Rattle.cover.specs.declared.node.Span.{Span}
-use Rattle.cover.specs.Tree.{KeySet, Cover, named, named_by, both}
+use Rattle.cover.specs.Tree.{Cover, named, both}
 use Rattle.cover.proofs.Covers.{cover-same}
 use Rattle.cover.proofs.Held.{held-keys}
 use Rattle.cipher.specs.declared.Block.{Block}
@@ -15,7 +13,7 @@ use Rattle.grant.specs.declared.grant.Grant.{Grant}
 use Rattle.grant.specs.Seeds.{Encrypted, walk}
 use Rattle.grant.specs.Rows.{node_of}
 use Rattle.grant.specs.Rules.{Answer, narrow_rules}
-use Rattle.grant.specs.Grants.{rows_of, nodes_of, numbers_of, Granted, Holds, Serves}
+use Rattle.grant.specs.Grants.{rows_of, nodes_of, numbers_of, Granted, Holds}
 use Rattle.grant.specs.Calls.{issued_keys, ComesFrom, Issues, Narrows}
 use Rattle.grant.specs.Histories.{Call, issued, narrowed, Led, start, issue, narrow, within_span, granted, NarrowLaw, Faithful, Lawful, Continues, KeepsTo}
 use Rattle.grant.proofs.Walks.{walk-walk}

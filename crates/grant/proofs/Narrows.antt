@@ -1,23 +1,21 @@
 -- What a narrow comes to. Assumes nothing.
-use Rattle.std.proofs.Common.{◌≡◌, ℕ, ◌+◌, ◌-◌, ◌^◌, ◌<◌, ◌≤◌, Bool, true, false, cond, eqb, ltb, leb, ◌⊎◌, List, [], ◌∷◌, ◌++◌, map, length, get_or, take, Some, None, Ok, Err, Option, Result, sym, refl, ap, ◌∙◌, subst, inl, inr, ⊎_elim, arith, pow_mono}
+use Rattle.std.proofs.Common.{◌≡◌, ℕ, ◌^◌, ◌<◌, ◌≤◌, true, cond, eqb, ltb, leb, List, [], ◌∷◌, map, length, get_or, take, Some, None, Ok, Err, Option, sym, refl, ap, ◌∙◌, subst, arith, pow_mono}
 use mathlib.Core.List.{Memᴰ}
-use Rattle.refusal.specs.declared.Refusal.{Refusal}
 use Rattle.refusal.specs.declared.Refusal.TheVariants.{EmptySpan, SpanPastEnd, TooManyRows, ShortScratch, NothingLeft}
 use Rattle.std.proofs.lemmas.Bool.{both_ways, cond-true, cond-false, le-ltb, lt-ltb, lt-leb, ne_eqb, eq-eqb}
 use Rattle.cover.specs.declared.node.Node.{Node}
 use Rattle.cover.specs.declared.node.Span.{Span}
-use Rattle.cover.specs.Tree.{first_key, past, stands, KeySet, Cover, held, named, both, sound}
+use Rattle.cover.specs.Tree.{first_key, past, KeySet, Cover, held, named, both, sound}
 use Rattle.cover.specs.Cut.{cut, left_rows}
-use Rattle.cover.proofs.Geometry.{climb, climb-level, climb-first, climb-past, first_past}
+use Rattle.cover.proofs.Geometry.{climb-level, climb-first, climb-past, first_past}
 use Rattle.cover.proofs.Cuts.{cut_row}
 use Rattle.cover.proofs.Covers.{cover_unique, left-cover}
 use Rattle.cover.proofs.Held.{in_held, one-row}
 use Rattle.cover.proofs.Members.{from_joined}
 use Rattle.cover.proofs.Sound.{sound-cover, cover-sound}
-use Rattle.cipher.specs.declared.Block.{Block}
 use Rattle.grant.specs.declared.grant.row.Row.{Row}
 use Rattle.grant.specs.declared.grant.Grant.{Grant}
-use Rattle.grant.specs.Seeds.{Encrypted, walk}
+use Rattle.grant.specs.Seeds.{Encrypted}
 use Rattle.grant.specs.Rows.{node_of, sound_rows}
 use Rattle.grant.specs.Rules.{narrow_rules}
 use Rattle.grant.proofs.Verdicts.{verdict}

@@ -1,19 +1,18 @@
 -- Which keys a grant has that holds what was granted. Assumes nothing.
-use Rattle.std.proofs.Common.{◌≡◌, ℕ, ◌+◌, ◌-◌, ◌*◌, ◌/◌, ◌^◌, ◌<◌, ◌≤◌, Bool, true, false, cond, ◌||◌, ltb, leb, ◌⊎◌, List, [], ◌∷◌, ◌++◌, map, length, get_or, take, Some, None, Option, sym, refl, ap, ◌∙◌, subst, inl, inr, ⊎_elim, mul_assoc, arith, pow_pos, pow-add}
-use mathlib.Core.List.{Memᴰ}
+use Rattle.std.proofs.Common.{◌≡◌, ℕ, ◌+◌, ◌-◌, ◌*◌, ◌/◌, ◌^◌, ◌<◌, ◌≤◌, Bool, true, false, cond, ◌||◌, ltb, leb, List, [], ◌∷◌, map, Some, None, Option, sym, refl, ap, ◌∙◌, ⊎_elim, mul_assoc, arith, pow_pos, pow-add}
 use native.Mathlib.Nat.{div-eq_of_lt-le}
-use Rattle.std.proofs.lemmas.Bool.{cases_Bool, cases_lt, both_ways, or_from, or_left, cond-true, cond-false, leb-true, ltb-true, lt-ltb, le-ltb, and_parts}
+use Rattle.std.proofs.lemmas.Bool.{cases_lt, or_from, cond-true, cond-false, leb-true, ltb-true, lt-ltb, le-ltb, and_parts}
 use Rattle.cover.specs.declared.node.Node.{Node}
 use Rattle.cover.specs.Tree.{first_key, past, stands, held}
 use Rattle.std.proofs.lemmas.Nat.{mul-le}
 use Rattle.cover.proofs.Covers.{le-cancel}
-use Rattle.cover.proofs.Held.{held-keys, in_held}
+use Rattle.cover.proofs.Held.{held-keys}
 use Rattle.cipher.specs.declared.Block.{Block}
 use Rattle.grant.specs.declared.grant.row.Row.{Row}
 use Rattle.grant.specs.declared.grant.Grant.{Grant}
-use Rattle.grant.specs.Seeds.{Encrypted, walk, leaf_words, tree_words, figured, figures}
+use Rattle.grant.specs.Seeds.{Encrypted, walk, leaf_words, tree_words, figured}
 use Rattle.grant.specs.Rows.{node_of}
-use Rattle.grant.specs.Grants.{rows_of, nodes_of, row_over, grant_words, words_from, grant_keys, Granted, only, granted_keys, Holds, Serves}
+use Rattle.grant.specs.Grants.{rows_of, nodes_of, row_over, words_from, grant_keys, Granted, only, granted_keys, Holds, Serves}
 use Rattle.grant.proofs.Walks.{walk-walk}
 use Rattle.grant.proofs.Found.{under_member, member_map}
 

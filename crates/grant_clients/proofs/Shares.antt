@@ -1,5 +1,5 @@
 -- A grant as the reader of a run. Assumes nothing.
-use Rattle.std.proofs.Common.{◌≡◌, ℕ, ◌^◌, ◌≤◌, Bool, true, false, cond, not, ◌&&◌, ltb, List, ◌∷◌, length, is_some, Some, None, Option, Result, sym, refl, ap, ◌∙◌, subst, arith}
+use Rattle.std.proofs.Common.{◌≡◌, ℕ, ◌^◌, Bool, true, false, cond, not, ◌&&◌, ltb, List, ◌∷◌, length, is_some, Some, None, Option, Result, sym, refl, ap, ◌∙◌}
 use Rattle.refusal.specs.Judged.{first}
 use Rattle.refusal.specs.declared.Refusal.{Refusal}
 use Rattle.refusal.specs.declared.Refusal.TheVariants.{Reversed, Beyond, NoKeyBefore, NoKeyAfter}
@@ -12,7 +12,7 @@ use Rattle.grant.specs.declared.grant.Grant.{Grant}
 use Rattle.grant.specs.Seeds.{Encrypted, figured, leaf_words, walk, tree_keys}
 use Rattle.grant.specs.Grants.{Granted, grant_keys, granted_keys}
 use Rattle.grant.proofs.Lawfully.{keeps_to}
-use Rattle.grant_clients.specs.Sharing.{has, share_rules, Shares, Shared}
+use Rattle.grant_clients.specs.Sharing.{has, Shares, Shared}
 
 -- a key that was granted is there exactly when the tree has it
 some-granted : {G : Type 0} (width : ℕ) (made : List ℕ → G) (b c : Bool) (words : List ℕ) → is_some (cond b (figured width made (cond c (Some words) None)) None) ≡ (b && c)

@@ -1,15 +1,15 @@
 -- Texts that begin with the lines of rows: one row more, and that a text begins in one way. Assumes nothing.
-use Rattle.std.proofs.Common.{◌≡◌, ℕ, zero, suc, ◌+◌, ◌-◌, ◌*◌, ◌^◌, ◌<◌, ◌≤◌, List, [], ◌∷◌, ◌++◌, length, get_or, take, drop, sym, refl, ap, ◌∙◌, subst, ⊎_elim, arith, take-add}
+use Rattle.std.proofs.Common.{◌≡◌, ℕ, zero, suc, ◌+◌, ◌-◌, ◌*◌, ◌<◌, ◌≤◌, List, [], ◌∷◌, ◌++◌, length, get_or, take, drop, sym, refl, ap, ◌∙◌, subst, ⊎_elim, arith, take-add}
 use Rattle.std.specs.List.{flat_map}
-use Rattle.std.proofs.lemmas.List.{append-nil, append_assoc, length-append, length_push, length-take, length-take-le, length-drop, take_at, take_all, drop_at, drop-drop, get_or_append_left, get_or-append_right, get_or-take, ext_get_or, flat_map_more, take-append-drop}
+use Rattle.std.proofs.lemmas.List.{append-nil, length-append, length_push, length-take, length-take-le, length-drop, take_at, take_all, drop_at, drop-drop, get_or_append_left, get_or-append_right, get_or-take, ext_get_or, flat_map_more}
 use Rattle.std.proofs.lemmas.Bool.{cases_lt}
 use Rattle.grant.specs.declared.grant.row.Row.{Row}
 use Rattle.grant.specs.Rows.{zero_row}
-use Rattle.grant_text.specs.Texts.{sizes, heading, row_line}
-use Rattle.grant_text.specs.Readings.{FitsLine, AllFit, Sized, Headed, line, Shows, Begins}
+use Rattle.grant_text.specs.Texts.{heading, row_line}
+use Rattle.grant_text.specs.Readings.{FitsLine, AllFit, Headed, line, Shows, Begins}
 use Rattle.grant_text.proofs.Fronts.{length_part}
 use Rattle.grant_text.proofs.Widths.{length-row_line, length-heading}
-use Rattle.grant_text.proofs.Cuts.{part_of_take, row_same, sizes-same, letters_cut}
+use Rattle.grant_text.proofs.Cuts.{part_of_take, row_same, sizes-same}
 
 -- the parts of rows in which each fits
 fit_tail : (r : Row) (rows : List Row) → AllFit (r ∷ rows) → AllFit rows

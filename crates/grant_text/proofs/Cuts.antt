@@ -1,14 +1,13 @@
 -- A text is cut into its columns in one way. Assumes nothing.
-use Rattle.std.proofs.Common.{◌≡◌, ℕ, ◌+◌, ◌-◌, ◌*◌, ◌^◌, ◌<◌, ◌≤◌, List, [], ◌∷◌, ◌++◌, length, get_or, take, drop, replicate, codes, decimal, sym, refl, ap, ◌∙◌, subst, arith, take-add}
-use Rattle.std.proofs.lemmas.List.{append_assoc, length-append, length-replicate, length-take, length-drop, take_at, drop_at, drop-drop, drop-take, take-take, take_all, take_more, get_or-append_right, get_or-drop, get_or-take, drop_more, take_rest, append_cancel_left}
+use Rattle.std.proofs.Common.{◌≡◌, ℕ, ◌+◌, ◌-◌, ◌*◌, ◌^◌, ◌<◌, ◌≤◌, List, [], ◌∷◌, ◌++◌, length, get_or, take, drop, replicate, codes, decimal, sym, refl, ap, ◌∙◌, arith, take-add}
+use Rattle.std.proofs.lemmas.List.{append_assoc, length-append, length-replicate, length-take, take_at, drop_at, drop-drop, drop-take, take-take, take_all, take_more, get_or-append_right, get_or-drop, get_or-take, drop_more, take_rest, append_cancel_left}
 use Rattle.std.proofs.lemmas.Str.Parse.{digit_at}
 use Rattle.std.proofs.lemmas.Fmt.{decimal_nonempty, digits_decimal, decimal_injective}
 use Rattle.grant_text.specs.Columns.{column}
-use Rattle.cipher.specs.declared.Block.{Block}
 use Rattle.grant.specs.declared.grant.row.Row.{Row}
 use Rattle.grant_text.specs.Texts.{sizes, heading, row_line}
 use Rattle.grant_text.specs.Readings.{FitsLine, line}
-use Rattle.grant_text.proofs.Figures.{own, length-column, length-column-le, column-split}
+use Rattle.grant_text.proofs.Figures.{own, length-column-le, column-split}
 use Rattle.grant_text.proofs.Fronts.{length_part}
 
 -- two figures with one column are one figure

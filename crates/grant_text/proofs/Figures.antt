@@ -1,10 +1,9 @@
 -- Laws of columns: they have their width, are written from the right, and are read back. Assumes nothing.
-use Rattle.std.proofs.Common.{◌≡◌, ℕ, suc, ◌+◌, ◌-◌, ◌*◌, ◌/◌, ◌%◌, ◌^◌, ◌<◌, ◌≤◌, true, false, cond, eqb, List, [], ◌∷◌, ◌++◌, map, length, get_or, take, drop, set, replicate, Some, None, decimal, Option, sym, refl, ap, ◌∙◌, subst, inl, inr, ⊎_elim, add-one, arith, MatchOption}
+use Rattle.std.proofs.Common.{◌≡◌, ℕ, suc, ◌+◌, ◌-◌, ◌*◌, ◌/◌, ◌%◌, ◌^◌, ◌<◌, ◌≤◌, cond, eqb, List, [], ◌∷◌, ◌++◌, map, length, get_or, take, drop, set, replicate, Some, None, decimal, Option, sym, ap, ◌∙◌, subst, ⊎_elim, add-one, arith, MatchOption}
 use Rattle.std.specs.Str.Parse.{digits_value, AllDigits}
-use Rattle.std.specs.Int.{IsInRange}
 use Rattle.std.specs.Char.{digit_value as value_of_digit}
 use Rattle.std.specs.Int.Digits.{number_from_digits, number_from_digits_after}
-use Rattle.std.proofs.lemmas.List.{append_assoc, length-append, length-replicate, replicate_more, get_or-replicate, get_or_append_left, get_or-append_right, drop_at, drop-set, take_more, take-append-drop, map-append, length_push, length-drop, length-set, drop_all, take_all, nil_from_length}
+use Rattle.std.proofs.lemmas.List.{append_assoc, length-append, length-replicate, replicate_more, get_or-replicate, get_or_append_left, get_or-append_right, drop_at, drop-set, take-append-drop, map-append, length_push, length-drop, length-set, drop_all, take_all, nil_from_length}
 use Rattle.std.proofs.lemmas.Int.Digits.{digits_more, digits_value_more, digits_value_is, number_after_append, number_after_ge}
 use Rattle.std.proofs.lemmas.Str.Parse.{IsNumeralModel, numerals_by_value, tells_digits, digit_at}
 use Rattle.std.proofs.lemmas.Fmt.{decimal_digit, decimal_step, decimal_nonempty, first_decimal, digits_decimal, digits_value-decimal, decimal-digits_value}

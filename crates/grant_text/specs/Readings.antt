@@ -1,5 +1,5 @@
 -- What a text says, and why it is refused. Assumes nothing.
-use Rattle.std.specs.Prelude.{◌≡◌, ℕ, ◌+◌, ◌*◌, ◌^◌, ◌<◌, ◌≤◌, List, [], ◌∷◌, ◌++◌, map, length, take, drop, Some, None, Ok, Err, Option, Result, ◌≢◌, slice_index_or}
+use Rattle.std.specs.Prelude.{◌≡◌, ℕ, ◌+◌, ◌*◌, ◌^◌, ◌<◌, ◌≤◌, List, ◌++◌, map, length, take, drop, Some, None, Ok, Err, Option, Result, ◌≢◌, slice_index_or}
 use Rattle.std.specs.List.{flat_map}
 use Rattle.refusal.specs.declared.Refusal.{Refusal}
 use Rattle.refusal.specs.declared.Refusal.TheVariants.{Heading, TextLength, RowForm}
@@ -9,7 +9,7 @@ use Rattle.grant.specs.declared.grant.row.Row.{Row}
 use Rattle.grant.specs.declared.grant.Grant.{Grant}
 use Rattle.grant.specs.Rows.{node_of, zero_row}
 use Rattle.grant.specs.Grants.{rows_of}
-use Rattle.grant_text.specs.Texts.{heading, row_line, text_of}
+use Rattle.grant_text.specs.Texts.{heading, row_line}
 
 -- A height and rows, or a refusal.
 abbrev pub Answer : Type 0

@@ -1,5 +1,5 @@
 -- Each way out of post is as promised. Assumes nothing.
-use Rattle.std.proofs.Common.{◌≡◌, ℕ, ◌*◌, ◌<◌, ◌≤◌, true, false, ◌||◌, ltb, ◌⊎◌, length, Some, None, Ok, Err, sym, refl, ap, ◌∙◌, ⊎_elim}
+use Rattle.std.proofs.Common.{◌≡◌, ℕ, ◌*◌, ◌<◌, ◌≤◌, true, false, ◌||◌, ltb, ◌⊎◌, length, Some, None, Ok, Err, sym, refl, ⊎_elim}
 use Rattle.std.proofs.lemmas.Bool.{lt-ltb, le-ltb, le-leb, lt-leb, or_left, or_right, or_from}
 use Rattle.refusal.specs.declared.Refusal.TheVariants.{Step, Full, NoKeyBefore, NoKeyAfter}
 use Rattle.group.specs.Kind.{Kind}

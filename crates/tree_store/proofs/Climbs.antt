@@ -1,5 +1,5 @@
 -- Climbing from level 0 until a level has one cell. Assumes nothing.
-use Rattle.std.proofs.Common.{◌≡◌, ℕ, zero, suc, ◌+◌, ◌-◌, ◌*◌, ◌^◌, ◌<◌, ◌≤◌, cond, leb, ◌⊎◌, sym, refl, ap, ◌∙◌, subst, ⊎_elim, arith}
+use Rattle.std.proofs.Common.{◌≡◌, ℕ, zero, suc, ◌+◌, ◌-◌, ◌*◌, ◌^◌, ◌<◌, ◌≤◌, cond, leb, sym, refl, ap, ◌∙◌, subst, ⊎_elim, arith}
 use Rattle.std.proofs.lemmas.Bool.{le-leb, lt-leb, cond_both, cases_lt}
 use Rattle.tree_store.specs.Levels.{covering, level_width, level_start, levels_within, level_count, cells_needed, Levelled}
 use Rattle.tree_store.proofs.Widths.{covering-some, covering-less, covering-halves}

@@ -1,5 +1,5 @@
 -- What the cells of a tree hold: fan-out k, over a lowest level of `most` cells. Assumes nothing.
-use Rattle.std.specs.Prelude.{◌≡◌, ℕ, zero, suc, ◌+◌, ◌*◌, ◌/◌, ◌^◌, ◌<◌, ◌≢◌, List, ◌++◌, length, get_or, drop, set, replicate, slice_index_or, slice_set}
+use Rattle.std.specs.Prelude.{◌≡◌, ℕ, zero, suc, ◌+◌, ◌*◌, ◌/◌, ◌^◌, ◌<◌, ◌≢◌, List, ◌++◌, length, get_or, drop, replicate, slice_index_or, slice_set}
 use Rattle.group.specs.Kind.{Kind, sum}
 use Rattle.store.specs.Contents.{between}
 use Rattle.tree_store.specs.Levels.{level_width, level_start}

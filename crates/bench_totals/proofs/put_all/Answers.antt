@@ -1,4 +1,4 @@
-use Rattle.std.proofs.Common.{refl, ap, ◌∙◌, arith, take_all, rules}
+use Rattle.std.proofs.Common.{ap, ◌∙◌, arith, take_all, rules}
 use Rattle.tree_clients.specs.Puts.{filled}
 use Rattle.tree_clients.proofs.Putting.{filled_none}
 use Rattle.bench_totals.proofs.Rounding.{put_next}

@@ -1,5 +1,5 @@
-use Rattle.std.proofs.Common.{◌≡◌, get_or, sym, refl, ap, ◌∙◌, ap₂, add-one, arith}
-use Rattle.cipher.specs.Aes.{constants, mix_columns, round_key, rounds, shift_rows, sub_bytes, xor_state}
+use Rattle.std.proofs.Common.{◌≡◌, sym, refl, ap, ◌∙◌, ap₂, add-one, arith}
+use Rattle.cipher.specs.Aes.{mix_columns, round_key, rounds, shift_rows, sub_bytes, xor_state}
 use Rattle.cipher.specs.AesWords.{next_key, state_of_words}
 use Rattle.cipher.proofs.Schedule.{first_key, next_key_lem}
 use Rattle.cipher.proofs.aes.first_rounds.Goals as goal

@@ -1,6 +1,5 @@
-use Rattle.std.proofs.Common.{◌≡◌, ◌-◌, ◌*◌, ◌<◌, ◌≤◌, ◌⊎◌, inl, inr, ⊎_elim, arith}
-use Rattle.cover.specs.Tree.{first_key, past}
-use Rattle.cover.specs.Cut.{node, cut}
+use Rattle.std.proofs.Common.{◌-◌, ◌*◌, inl, inr, ⊎_elim, arith}
+use Rattle.cover.specs.Cut.{cut}
 use Rattle.cover.specs.Listed.{listed}
 use Rattle.cover.proofs.Cuts.{index-small}
 use Rattle.cover.proofs.Steps.{own, kept-both, step-apart, step-whole, halved-at, step_left, step_right}

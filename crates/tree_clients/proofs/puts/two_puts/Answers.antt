@@ -1,4 +1,4 @@
-use Rattle.std.proofs.Common.{◌≡◌, length, is_ok, Ok, sym, ap, ◌∙◌, arith}
+use Rattle.std.proofs.Common.{◌≡◌, length, is_ok, sym, ap, ◌∙◌, arith}
 use Rattle.refusal.specs.Judged.{left_by}
 use Rattle.store.specs.Contents.{push}
 use Rattle.tree_store.specs.Trees.{tree}

@@ -1,4 +1,4 @@
-use Rattle.std.proofs.Common.{◌≡◌, suc, ◌<◌, length, drop, Some, sym, ap, ◌∙◌, add-one, arith, drop_of_length-le, drop-cons}
+use Rattle.std.proofs.Common.{suc, ◌<◌, length, drop, Some, sym, ap, ◌∙◌, add-one, arith, drop_of_length-le, drop-cons}
 use Rattle.vectors.specs.Hex.{next, number_from}
 use Rattle.vectors.proofs.hex.read_word.Goals as goal
 

@@ -1,4 +1,4 @@
-use Rattle.std.proofs.Common.{◌≡◌, ℕ, ◌+◌, List, [], length, sym, ap, ◌∙◌, ap₂, arith}
+use Rattle.std.proofs.Common.{◌≡◌, ℕ, ◌+◌, [], length, sym, ap, ◌∙◌, ap₂, arith}
 use Rattle.vectors.specs.Lines.{counted, tallied_from, verdict}
 use Rattle.vectors.specs.declared.lines.Tally.{Tally}
 use Rattle.vectors.proofs.Scan.{at-end, at_last, at_newline, at_other, rest}

@@ -1,19 +1,13 @@
-use Rattle.std.proofs.Common.{◌≡◌, ℕ, ◌+◌, ◌-◌, ◌<◌, leb, List, [], ◌∷◌, ◌++◌, length, get_or, take, set, Some, None, Ok, Err, Option, sym, refl, ap, ◌∙◌, subst, arith, length-set}
+use Rattle.std.proofs.Common.{◌≡◌, ℕ, ◌<◌, leb, [], ◌∷◌, ◌++◌, length, Ok, Err, sym, refl, ap, ◌∙◌, arith, length-set}
 use Rattle.std.proofs.lemmas.List.{length-take-le, take_more_set}
 use Rattle.std.proofs.lemmas.Result.{err_from_is_err_and}
 use Rattle.std.proofs.lemmas.Bool.{cond-true, cond-false, le-leb, lt-leb}
-use Rattle.refusal.specs.declared.Refusal.{Refusal}
 use Rattle.refusal.specs.declared.Refusal.TheVariants.{TooManyRows}
-use Rattle.refusal.specs.Judged.{Rules, left_by}
-use Rattle.cover.specs.declared.node.Node.{Node}
-use Rattle.cover.specs.Next.{next_rules, check_rules, last_of}
+use Rattle.refusal.specs.Judged.{left_by}
 use Rattle.grant.specs.Rules.{Answer}
-use Rattle.grant.specs.Rows.{node_of, zero_row}
-use Rattle.grant.specs.Grants.{rows_of, nodes_of}
-use Rattle.grant.specs.Filling.{add_rules}
-use Rattle.grant.proofs.Found.{no_row}
+use Rattle.grant.specs.Rows.{zero_row}
+use Rattle.grant.specs.Grants.{rows_of}
 use Rattle.grant.proofs.Filled.{behind_one}
-use Rattle.grant.proofs.Verdicts.{verdict}
 use Rattle.grant.proofs.Added.{added_sound_grant, added_refused, added_passed}
 use Rattle.grant.proofs.grant.Grant.add_row.Goals as goal
 

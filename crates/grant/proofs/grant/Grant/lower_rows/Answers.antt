@@ -1,4 +1,4 @@
-use Rattle.std.proofs.Common.{◌≡◌, ℕ, ◌-◌, map, length, get_or, take, set, sym, ap, ◌∙◌, subst, arith, length-set, take_all}
+use Rattle.std.proofs.Common.{◌≡◌, ℕ, map, length, get_or, take, sym, ap, ◌∙◌, subst, arith, length-set, take_all}
 use Rattle.cover.specs.Cut.{node}
 use Rattle.grant.specs.declared.grant.row.Row.{Row}
 use Rattle.grant.specs.Rows.{zero_row, BlankAfter}

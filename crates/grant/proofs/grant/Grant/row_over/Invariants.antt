@@ -1,4 +1,4 @@
-use Rattle.std.proofs.Common.{◌≡◌, take, drop}
+use Rattle.std.proofs.Common.{◌≡◌, drop}
 use Rattle.grant.specs.Grants.{row_over, rows_of}
 use Rattle.grant.proofs.grant.Grant.row_over.Given as goal
 

@@ -1,4 +1,4 @@
-use Rattle.std.proofs.Common.{◌≡◌, ℕ, ◌≤◌, List, ◌++◌, length, drop, set, replicate, ap, ◌∙◌, append-nil, arith, drop_of_length-le}
+use Rattle.std.proofs.Common.{◌≡◌, ℕ, List, ◌++◌, length, drop, set, replicate, ap, ◌∙◌, append-nil, arith, drop_of_length-le}
 use Rattle.grant.specs.declared.grant.row.Row.{Row}
 use Rattle.grant.specs.Rows.{zero_row}
 use Rattle.grant.proofs.Filled.{blank_one}

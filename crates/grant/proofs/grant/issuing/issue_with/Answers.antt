@@ -1,7 +1,6 @@
-use Rattle.std.proofs.Common.{◌≡◌, ℕ, ◌<◌, ◌≤◌, List, [], ◌∷◌, ◌++◌, map, length, take, Err, sym, refl, ap, ◌∙◌, subst, arith}
+use Rattle.std.proofs.Common.{◌≡◌, ℕ, ◌<◌, ◌≤◌, List, ◌++◌, map, length, take, Err, sym, refl, ap, ◌∙◌, subst, arith}
 use Rattle.cover.specs.declared.node.Node.{Node}
 use Rattle.cover.specs.Cut.{node, spans_rows}
-use Rattle.grant.specs.declared.grant.row.Row.{Row}
 use Rattle.std.proofs.lemmas.Result.{err_from_is_err_and}
 use Rattle.grant.specs.Rules.{Answer}
 use Rattle.grant.specs.Calls.{Issues}

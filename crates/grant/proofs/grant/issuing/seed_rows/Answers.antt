@@ -1,6 +1,5 @@
-use Rattle.std.proofs.Common.{◌≡◌, ℕ, ◌-◌, map, length, get_or, take, set, replicate, sym, refl, ap, ◌∙◌, subst, arith, length-set, take_all}
+use Rattle.std.proofs.Common.{◌≡◌, ℕ, map, length, get_or, take, replicate, sym, refl, ap, ◌∙◌, subst, arith, length-set, take_all}
 use lib.ListN.{length-replicate}
-use Rattle.cover.specs.declared.node.Node.{Node}
 use Rattle.cover.specs.Cut.{node}
 use Rattle.grant.specs.declared.grant.row.Row.{Row}
 use Rattle.grant.specs.Rows.{zero_row, BlankAfter}

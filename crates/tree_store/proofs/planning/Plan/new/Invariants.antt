@@ -1,4 +1,4 @@
-use Rattle.std.proofs.Common.{◌-◌, ◌≤◌}
+use Rattle.std.proofs.Common.{◌≤◌}
 use Rattle.tree_store.proofs.Climbs.{Climb}
 use Rattle.tree_store.proofs.planning.Plan.new.Given as goal
 
