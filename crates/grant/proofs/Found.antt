@@ -1,18 +1,22 @@
 -- The row over a key. Assumes nothing.
-use Rattle.std.proofs.Common.{◌≡◌, ℕ, zero, suc, ◌+◌, ◌*◌, ◌/◌, ◌^◌, ◌<◌, ◌≤◌, Bool, true, false, cond, ltb, leb, List, [], ◌∷◌, map, length, get_or, take, drop, Some, None, sym, refl, ap, ◌∙◌, subst, arith, drop_of_length-le, drop-cons, pow_pos}
+use Rattle.std.proofs.Common.{◌≡◌, ℕ, zero, suc, ◌+◌, ◌*◌, ◌/◌, ◌^◌, ◌<◌, ◌≤◌, Bool, true, false, cond, ltb, leb, List, [], ◌∷◌, map, length, get_or, take, drop, Some, None, Option, ◌≢◌, ◌&&◌, sym, refl, ap, ◌∙◌, subst, arith, drop_of_length-le, drop-cons, pow_pos}
 use mathlib.Core.List.Memᴰ
 use mathlib.Core.List.{Memᴰ}
 use native.Mathlib.Nat.{div-eq_of_lt-le}
+use Rattle.std.specs.List.{find}
 use Rattle.std.proofs.Math.ListN.{get_or-map}
 use Rattle.std.proofs.lemmas.Nat.{shr_split, mod_below}
 use Rattle.std.proofs.lemmas.List.{length-take-le, get_or-take}
 use Rattle.std.proofs.lemmas.Bool.{cond-true, cond-false, cases_Bool, leb-true, ltb-true, le-leb, lt-ltb, and_parts, and_from}
+use Rattle.std.proofs.lemmas.Bool.Decides.{eqb_tells}
+use Rattle.std.proofs.Math.Dec.{eqb}
 use Rattle.cover.specs.declared.node.Node.{Node}
 use Rattle.cover.specs.Tree.{first_key, past, stands, held, RowOf}
 use Rattle.cover.proofs.Sound.{sound-cover}
 use Rattle.grant.specs.declared.grant.row.Row.{Row}
 use Rattle.grant.specs.Rows.{node_of, sound_rows}
 use Rattle.grant.specs.Grants.{row_over}
+use Rattle.grant.specs.Filling.{over}
 
 abbrev pub no_row : Row
 no_row = record { level = 0; index = 0; seed = record { high = 0; low = 0 } }
@@ -47,20 +51,20 @@ stands-not n k not =
     (λ (e : stands n k ≡ false). e)
     (cases_Bool (stands n k))
 
-module _ (count : ℕ) (rows : List Row) (k i : ℕ) (fits : count ≤ length rows) (inv : row_over (drop i (take count rows)) k ≡ row_over (take count rows) k) where
-  pub no_row-left : count ≤ i → None ≡ row_over (take count rows) k
-  no_row-left h = ap (λ (x : List Row). row_over x k) (sym (drop_of_length-le (take count rows) (omega (arith, length-take-le count rows fits)))) ∙ inv
+pub stands_is : (n : Node) (k : ℕ) → eqb (k / 2 ^ n.level) n.index ≡ stands n k
+stands_is n k =
+    mathlib.Core.Logic.⊎_elim
+    (λ (h : (eqb (k / 2 ^ n.level) n.index ≡ true) × (k / 2 ^ n.level ≡ n.index)). h.0 ∙ sym (stands_at n k h.1))
+    (λ (h : (eqb (k / 2 ^ n.level) n.index ≡ false) × (k / 2 ^ n.level ≢ n.index)). h.0 ∙ sym (stands-not n k h.1))
+    (eqb_tells (k / 2 ^ n.level) n.index)
 
-  one-row : i < count → row_over (get_or rows i no_row ∷ drop (suc i) (take count rows)) k ≡ row_over (take count rows) k
-  one-row h =
-      ap (λ (r : Row). row_over (r ∷ drop (suc i) (take count rows)) k) (sym (get_or-take count rows i no_row h)) ∙ ap (λ (x : List Row). row_over x k) (sym (drop-cons (take count rows) i no_row (omega (arith, length-take-le count rows fits)))) ∙ inv
-
-  pub row_here : i < count → k / 2 ^ (get_or rows i no_row).level ≡ (get_or rows i no_row).index → Some (get_or rows i no_row) ≡ row_over (take count rows) k
-  row_here h e = sym (cond-true (stands (node_of (get_or rows i no_row)) k) (Some (get_or rows i no_row)) _ (stands_at (node_of (get_or rows i no_row)) k e)) ∙ one-row h
-
-  pub row-later : i < count → (k / 2 ^ (get_or rows i no_row).level ≡ (get_or rows i no_row).index → ⊥) → row_over (drop (i + 1) (take count rows)) k ≡ row_over (take count rows) k
-  row-later h e =
-      ap (λ (x : ℕ). row_over (drop x (take count rows)) k) (native.Mathlib.Numerals.add-one i) ∙ sym (cond-false (stands (node_of (get_or rows i no_row)) k) (Some (get_or rows i no_row)) _ (stands-not (node_of (get_or rows i no_row)) k e)) ∙ one-row h
+-- among rows that are not above the highest level, the first over the key is found
+pub find_over : (rs : List Row) (k : ℕ) → ((r : Row) → Memᴰ r rs → r.level ≤ 32) → find (over k) rs ≡ row_over rs k
+find_over [] k low = refl
+find_over (r ∷ rs) k low =
+    let here : over k r ≡ stands (node_of r) k = ap (λ (b : Bool). b && stands (node_of r) k) (le-leb r.level 32 (low r (Memᴰ.head refl))) in
+    let there = find_over rs k (λ x m. low x (Memᴰ.tail m)) in
+    ap (λ (b : Bool). cond b (Some r) (find (over k) rs)) here ∙ ap (λ (o : Option Row). cond (stands (node_of r) k) (Some r) o) there
 
 pub under_member : (rs : List Row) (k : ℕ) (r : Row) → row_over rs k ≡ Some r → Memᴰ r rs × (stands (node_of r) k ≡ true)
 under_member [] k r e = let z : ◌≡◌ {A = ℕ} 0 1 = cc in absurd (omega arith)
@@ -73,6 +77,11 @@ under_member (x ∷ rs) k r e = by (stands (node_of x) k) refl e (under_member r
 pub under-inside : (height count : ℕ) (rows : List Row) (k : ℕ) (r : Row) → sound_rows height count rows ≡ true → row_over (take count rows) k ≡ Some r → RowOf height (held (map node_of (take count rows))) (node_of r)
 under-inside height count rows k r e u =
     (sound-cover height (map node_of (take count rows)) e).row (node_of r) (member_map node_of (take count rows) r (under_member (take count rows) k r u).0)
+
+pub rows-low : (height count : ℕ) (rows : List Row) → height ≤ 32 → sound_rows height count rows ≡ true → (r : Row) → Memᴰ r (take count rows) → r.level ≤ 32
+rows-low height count rows high e r m =
+    let inside = (sound-cover height (map node_of (take count rows)) e).row (node_of r) (member_map node_of (take count rows) r m) in
+    omega (arith, inside.low)
 
 pub node_at : (count : ℕ) (rows : List Row) (i : ℕ) → i < count → get_or (map node_of (take count rows)) i (node_of no_row) ≡ node_of (get_or rows i no_row)
 node_at count rows i h = get_or-map node_of (take count rows) i no_row ∙ ap node_of (get_or-take count rows i no_row h)
