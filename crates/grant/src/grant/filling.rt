@@ -2,9 +2,9 @@
 ghost use Rattle.std.specs.Prelude.{◌≡◌, [], ◌∷◌, ◌++◌, None, Err};
 ghost use Rattle.refusal.specs.declared.Refusal.{Refusal as WhyRefused};
 ghost use Rattle.refusal.specs.Judged.{judged, left_by};
-ghost use Rattle.cover.specs.Next.{check_rules};
+ghost use Rattle.cover.specs.Next.{check_rules, last_of};
 ghost use Rattle.grant.specs.Rows.{node_of};
-ghost use Rattle.grant.specs.Grants.{rows_of};
+ghost use Rattle.grant.specs.Grants.{rows_of, nodes_of};
 ghost use Rattle.grant.specs.Filling.{grant_data, add_rules, over, row_key};
 
 use super::{Grant, Row};
@@ -65,6 +65,12 @@ impl<C> Grant<C> {
         })
     }
 
+    fn last_node(&self) -> Option<Node>
+        ensures { result ≡ last_of None (nodes_of self.now) }
+    {
+        self.rows().last().map(Row::node)
+    }
+
     // Adds a row after the others.
     pub fn add_row(&mut self, row: Row) -> Result<(), Refusal>
         ensures answers { result ≡ judged (add_rules self.old row) tt }
@@ -72,8 +78,7 @@ impl<C> Grant<C> {
         ensures rows { rows_of self.new ≡ left_by result (rows_of self.old) (rows_of self.old ++ (row ∷ [])) }
         ensures kept { (why : WhyRefused) → result ≡ Err why → self.new ≡ self.old }
     {
-        let last = self.rows().last().map(Row::node);
-        check_next(self.height, last, row.node())?;
+        check_next(self.height, self.last_node(), row.node())?;
         let at = self.count;
         if at == self.rows.len() {
             return Err(Refusal::TooManyRows);

@@ -8,7 +8,7 @@ use Rattle.grant.specs.Rules.{Answer}
 use Rattle.grant.specs.Rows.{zero_row}
 use Rattle.grant.specs.Grants.{rows_of}
 use Rattle.grant.proofs.Filled.{behind_one}
-use Rattle.grant.proofs.Added.{added_sound_grant, added_refused, added_passed}
+use Rattle.grant.proofs.Added.{added_sound, added_refused, added_passed}
 use Rattle.grant.proofs.grant.Grant.add_row.Goals as goal
 
 pub returns-in_err-check_next : goal.returns-in_err-check_next
@@ -16,13 +16,13 @@ returns-in_err-check_next g c =
     let s = c.args.self.now in
     let q = err_from_is_err_and c.from_residual.result c.from_residual.ensures.1 in
     let is : c.from_residual.result ≡ Err c.in_err-check_next.field-0.0 = q.1 ∙ ap Err q.2 in
-    let told = added_refused s c.args.row c.node.result c.node-2.result c.node.ensures c.node-2.ensures c.in_err-check_next.field-0.0 c.in_err-check_next.ensures.answers in
+    let told = added_refused s c.args.row c.last_node.result c.node.result c.last_node.ensures c.node.ensures c.in_err-check_next.field-0.0 c.in_err-check_next.ensures.answers in
     record { answers = is ∙ sym told; height = refl; rows = sym (ap (λ (r : Answer). left_by r (rows_of s) (rows_of s ++ (c.args.row ∷ []))) is); kept = λ why e. refl }
 
 pub returns-then-at-eq128 : goal.returns-then-at-eq128
 returns-then-at-eq128 g c =
     let s = c.args.self.now in
-    let told = added_passed s c.args.row c.node.result c.node-2.result c.node.ensures c.node-2.ensures (sym c.in_ok-check_next.ensures.answers) in
+    let told = added_passed s c.args.row c.last_node.result c.node.result c.last_node.ensures c.node.ensures (sym c.in_ok-check_next.ensures.answers) in
     record {
       answers = sym (told ∙ cond-true (leb 128 (length (rows_of s))) (Err TooManyRows) (Ok tt) (le-leb 128 (length (rows_of s)) (omega (arith, length-take-le s.count s.rows (omega arith)))));
       height = refl;
@@ -34,7 +34,7 @@ pub invariant_of-self : goal.invariant_of-self
 invariant_of-self g c =
     let s = c.args.self.now in
     let room : s.count < length s.rows = omega arith in
-    let good = added_sound_grant s c.args.row c.node.result c.node-2.result c.node.ensures c.node-2.ensures room (sym c.in_ok-check_next.ensures.answers) in
+    let good = added_sound s c.args.row c.last_node.result c.node.result c.last_node.ensures c.node.ensures room (sym c.in_ok-check_next.ensures.answers) in
     record {
       low = s.low;
       high = s.high;
@@ -48,7 +48,7 @@ invariant_of-self g c =
 pub returns : goal.returns
 returns g c =
     let s = c.args.self.now in
-    let told = added_passed s c.args.row c.node.result c.node-2.result c.node.ensures c.node-2.ensures (sym c.in_ok-check_next.ensures.answers) in
+    let told = added_passed s c.args.row c.last_node.result c.node.result c.last_node.ensures c.node.ensures (sym c.in_ok-check_next.ensures.answers) in
     record {
       answers = sym (told ∙ cond-false (leb 128 (length (rows_of s))) (Err TooManyRows) (Ok tt) (lt-leb 128 (length (rows_of s)) (omega (arith, length-take-le s.count s.rows (omega arith)))));
       height = refl;
