@@ -79,12 +79,11 @@ impl<C> Grant<C> {
         ensures kept { (why : WhyRefused) → result ≡ Err why → self.new ≡ self.old }
     {
         check_next(self.height, self.last_node(), row.node())?;
-        let at = self.count;
-        if at == self.rows.len() {
+        if self.count == self.rows.len() {
             return Err(Refusal::TooManyRows);
         }
-        self.rows[at] = row;
-        self.count = at + 1;
+        self.rows[self.count] = row;
+        self.count += 1;
         Ok(())
     }
 }

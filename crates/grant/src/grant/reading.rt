@@ -45,7 +45,7 @@ impl<C> Grant<C> {
         ensures few { length result.now ≤ 128 }
         ensures cover { Cover self.now.height (numbers_of self.now) (nodes_of self.now) }
     {
-        &self.rows[0..self.count]
+        &self.rows[..self.count]
     }
 
     // The row over a key, where there is one.
