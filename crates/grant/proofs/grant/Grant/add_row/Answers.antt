@@ -1,10 +1,8 @@
-use Rattle.std.proofs.Common.{◌≡◌, ℕ, ◌<◌, leb, [], ◌∷◌, ◌++◌, length, Ok, Err, sym, refl, ap, ◌∙◌, arith, length-set}
-use Rattle.std.proofs.lemmas.List.{length-take-le, take_more_set}
+use Rattle.std.proofs.Common.{◌<◌, leb, length, Ok, Err, sym, ap, ◌∙◌, arith, length-set}
+use Rattle.std.proofs.lemmas.List.{length-take-le}
 use Rattle.std.proofs.lemmas.Result.{err_from_is_err_and}
-use Rattle.std.proofs.lemmas.Bool.{cond-true, cond-false, le-leb, lt-leb}
+use Rattle.std.proofs.lemmas.Bool.{cond-false, lt-leb}
 use Rattle.refusal.specs.declared.Refusal.TheVariants.{TooManyRows}
-use Rattle.refusal.specs.Judged.{left_by}
-use Rattle.grant.specs.Rules.{Answer}
 use Rattle.grant.specs.Rows.{zero_row}
 use Rattle.grant.specs.Grants.{rows_of}
 use Rattle.grant.proofs.Filled.{behind_one}
