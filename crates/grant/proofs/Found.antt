@@ -30,21 +30,22 @@ pub member_map : {X Y : Type 0} (f : X → Y) (xs : List X) (x : X) → Memᴰ x
 member_map f [] x m = absurd (Memᴰ.not-nil m)
 member_map f (y ∷ xs) x m = mathlib.Core.Logic.⊎_elim (λ (e : x ≡ y). Memᴰ.head (ap f e)) (λ (q : Memᴰ x xs). Memᴰ.tail (member_map f xs x q)) (mathlib.Core.List.Memᴰ.cases_cons m)
 
--- a row of a grant lies in the tree
+-- each row of a grant is one of the cover of the keys under the rows
+row_in : (height count : ℕ) (rows : List Row) (r : Row) → sound_rows height count rows ≡ true → Memᴰ r (take count rows) → RowOf height (held (map node_of (take count rows))) (node_of r)
+row_in height count rows r e m = (sound-cover height (map node_of (take count rows)) e).row (node_of r) (member_map node_of (take count rows) r m)
+
 pub row_inside : (height count : ℕ) (rows : List Row) (i : ℕ) → sound_rows height count rows ≡ true → count ≤ length rows → i < count → RowOf height (held (map node_of (take count rows))) (node_of (get_or rows i no_row))
 row_inside height count rows i e fits h =
-    let c = sound-cover height (map node_of (take count rows)) e in
     let m = member_at (take count rows) i no_row (omega (arith, length-take-le count rows fits)) in
-    let at = get_or-take count rows i no_row h in
-    c.row (node_of (get_or rows i no_row)) (subst (λ (r : Row). Memᴰ (node_of r) (map node_of (take count rows))) at (member_map node_of (take count rows) (get_or (take count rows) i no_row) m))
+    row_in height count rows (get_or rows i no_row) e (subst (λ (r : Row). Memᴰ r (take count rows)) (get_or-take count rows i no_row h) m)
 
-pub stands_at : (n : Node) (k : ℕ) → k / 2 ^ n.level ≡ n.index → stands n k ≡ true
+stands_at : (n : Node) (k : ℕ) → k / 2 ^ n.level ≡ n.index → stands n k ≡ true
 stands_at n k e =
     let low = subst (λ (x : ℕ). x * 2 ^ n.level + Prim.Native.Nat.◌%◌ k (2 ^ n.level) ≡ k) e (shr_split k n.level) in
     let less = mod_below k (2 ^ n.level) (pow_pos n.level) in
     and_from (leb (first_key n) k) (ltb k (past n)) (le-leb (first_key n) k (omega arith)) (lt-ltb k (past n) (omega (arith, native.Mathlib.Nat.add-mul n.index 1 (2 ^ n.level))))
 
-pub stands-not : (n : Node) (k : ℕ) → (k / 2 ^ n.level ≡ n.index → ⊥) → stands n k ≡ false
+stands-not : (n : Node) (k : ℕ) → (k / 2 ^ n.level ≡ n.index → ⊥) → stands n k ≡ false
 stands-not n k not =
     mathlib.Core.Logic.⊎_elim
     (λ (e : stands n k ≡ true). let h = and_parts (leb (first_key n) k) (ltb k (past n)) e in absurd (not (div-eq_of_lt-le (2 ^ n.level) (leb-true (first_key n) k h.0) (ltb-true k (past n) h.1))))
@@ -75,13 +76,10 @@ under_member (x ∷ rs) k r e = by (stands (node_of x) k) refl e (under_member r
     by false s e below = let q = below e in (Memᴰ.tail q.0, q.1)
 
 pub under-inside : (height count : ℕ) (rows : List Row) (k : ℕ) (r : Row) → sound_rows height count rows ≡ true → row_over (take count rows) k ≡ Some r → RowOf height (held (map node_of (take count rows))) (node_of r)
-under-inside height count rows k r e u =
-    (sound-cover height (map node_of (take count rows)) e).row (node_of r) (member_map node_of (take count rows) r (under_member (take count rows) k r u).0)
+under-inside height count rows k r e u = row_in height count rows r e (under_member (take count rows) k r u).0
 
 pub rows-low : (height count : ℕ) (rows : List Row) → height ≤ 32 → sound_rows height count rows ≡ true → (r : Row) → Memᴰ r (take count rows) → r.level ≤ 32
-rows-low height count rows high e r m =
-    let inside = (sound-cover height (map node_of (take count rows)) e).row (node_of r) (member_map node_of (take count rows) r m) in
-    omega (arith, inside.low)
+rows-low height count rows high e r m = let inside = row_in height count rows r e m in omega (arith, inside.low)
 
 pub node_at : (count : ℕ) (rows : List Row) (i : ℕ) → i < count → get_or (map node_of (take count rows)) i (node_of no_row) ≡ node_of (get_or rows i no_row)
 node_at count rows i h = get_or-map node_of (take count rows) i no_row ∙ ap node_of (get_or-take count rows i no_row h)

@@ -65,6 +65,7 @@ impl<C> Grant<C> {
         })
     }
 
+    // The node of the last row.
     fn last_node(&self) -> Option<Node>
         ensures { result ≡ last_of None (nodes_of self.now) }
     {

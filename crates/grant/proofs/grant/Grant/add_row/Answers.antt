@@ -17,7 +17,7 @@ returns-in_err-check_next-clause-answers g c =
     q.1 ∙ ap Err q.2 ∙ sym (added_refused s c.args.row c.last_node.result c.node.result c.last_node.ensures c.node.ensures why c.in_err-check_next.ensures.answers)
 
 pub invariant_of-self-clause-sized : goal.invariant_of-self-clause-sized
-invariant_of-self-clause-sized g c = let s = c.args.self.now in length-set s.rows s.count c.args.row ∙ s.sized
+invariant_of-self-clause-sized g c = let s = c.args.self.now in length-set s.rows s.count _ ∙ s.sized
 
 pub invariant_of-self-clause-sound : goal.invariant_of-self-clause-sound
 invariant_of-self-clause-sound g c =
