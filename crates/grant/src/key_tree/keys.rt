@@ -18,7 +18,7 @@ impl<C> KeyTree<C> {
     pub fn new(height: u32, root: Block) -> Result<KeyTree<C>, Refusal>
         ensures { tree_data result ≡ judged (height_rules height) (height, root) }
     {
-        if height < 1 || height > 32 {
+        if !(1..=32).contains(&height) {
             return Err(Refusal::Height);
         }
         Ok(KeyTree {
