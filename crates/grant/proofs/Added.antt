@@ -1,6 +1,7 @@
 -- A grant with one row more. Assumes nothing.
-use Rattle.std.proofs.Common.{◌≡◌, ℕ, ◌+◌, ◌-◌, ◌^◌, ◌<◌, ◌≤◌, true, not, ◌&&◌, leb, List, [], ◌∷◌, ◌++◌, map, length, get_or, take, set, Some, None, Ok, Err, Option, sym, refl, ap, ◌∙◌, arith}
-use Rattle.std.proofs.lemmas.List.{take_more, take_more_set, map-append}
+use Rattle.std.proofs.Common.{◌≡◌, ℕ, suc, ◌+◌, ◌-◌, ◌^◌, ◌<◌, ◌≤◌, true, not, ◌&&◌, leb, List, [], ◌∷◌, map, length, set, Some, None, Ok, Err, Option, option_map, sym, refl, ap, ◌∙◌, arith}
+use Rattle.std.specs.List.{slice_get}
+use Rattle.std.proofs.lemmas.List.{take_more_set, map-append}
 use Rattle.std.proofs.lemmas.Bool.{cond-false, le-leb, leb-true, and_from, and_parts, not_from_true, not-false}
 use Rattle.refusal.specs.declared.Refusal.{Refusal}
 use Rattle.refusal.specs.declared.Refusal.TheVariants.{Height, TooManyRows}
@@ -9,13 +10,12 @@ use Rattle.refusal.proofs.Judging.{refusal-judged}
 use Rattle.cover.specs.declared.node.Node.{Node}
 use Rattle.cover.specs.Tree.{sound}
 use Rattle.cover.specs.Next.{next_rules, check_rules, last_of}
-use Rattle.cover.proofs.Passing.{last_more, sound_more}
+use Rattle.cover.proofs.Passing.{sound_more}
 use Rattle.grant.specs.declared.grant.row.Row.{Row}
 use Rattle.grant.specs.declared.grant.Grant.{Grant}
 use Rattle.grant.specs.Rows.{node_of, sound_rows}
 use Rattle.grant.specs.Grants.{rows_of, nodes_of}
 use Rattle.grant.specs.Filling.{add_rules}
-use Rattle.grant.proofs.Found.{no_row}
 use Rattle.grant.proofs.Verdicts.{verdict, judged-found, judged-rest, judged-none}
 
 -- with a height in range the check is that of the node
@@ -24,50 +24,38 @@ in_range height before n low high =
     cond-false (not (leb 1 height && leb height 32)) (Err Height) (verdict (next_rules height before n))
     (not_from_true (leb 1 height && leb height 32) (and_from (leb 1 height) (leb height 32) (le-leb 1 height low) (le-leb height 32 high)))
 
-module _ (count : ℕ) (rows : List Row) where
-  split : 1 ≤ count → count ≤ length rows → map node_of (take count rows) ≡ map node_of (take (count - 1) rows) ++ (node_of (get_or rows (count - 1) no_row) ∷ [])
-  split some fits =
-      let up : count ≡ count - 1 + 1 = omega arith in
-      ap (λ (n : ℕ). map node_of (take n rows)) up ∙ ap (map node_of) (take_more rows (count - 1) no_row (omega arith))
-      ∙ map-append node_of (take (count - 1) rows) (get_or rows (count - 1) no_row ∷ [])
+last_at : (before : Option Node) (r : Row) (rs : List Row) → last_of before (map node_of (r ∷ rs)) ≡ option_map node_of (slice_get (r ∷ rs) (length rs))
+last_at before r [] = refl
+last_at before r (x ∷ rs) = last_at (Some (node_of r)) x rs
 
-  pub last_row : 1 ≤ count → count ≤ length rows → last_of None (map node_of (take count rows)) ≡ Some (node_of (get_or rows (count - 1) no_row))
-  last_row some fits = ap (last_of None) (split some fits) ∙ last_more None (map node_of (take (count - 1) rows)) (node_of (get_or rows (count - 1) no_row))
-
-  pub added_sound : (height : ℕ) (row : Row) → 1 ≤ count → count < length rows → sound_rows height count rows ≡ true → verdict (next_rules height (Some (node_of (get_or rows (count - 1) no_row))) (node_of row)) ≡ Ok tt → sound_rows height (count + 1) (set rows count row) ≡ true
-  added_sound height row some fits good passed =
-      let nodes = map node_of (take count rows) in
-      let rules = next_rules height (last_of None nodes) (node_of row) in
-      let passed' : verdict rules ≡ Ok tt = ap (λ (o : Option Node). verdict (next_rules height o (node_of row))) (last_row some (omega arith)) ∙ passed in
-      let free : first rules ≡ None = sym (refusal-judged rules tt) ∙ ap refusal passed' in
-      ap (λ (rs : List Row). sound height (map node_of rs)) (take_more_set rows count row fits)
-      ∙ ap (sound height) (map-append node_of (take count rows) (row ∷ []))
-      ∙ sound_more height nodes (node_of row) good free
+pub last_row : (rs : List Row) → option_map node_of (slice_get rs (length rs - 1)) ≡ last_of None (map node_of rs)
+last_row [] = refl
+last_row (r ∷ rs) = ap (λ (n : ℕ). option_map node_of (slice_get (r ∷ rs) n)) (let q : suc (length rs) - 1 ≡ length rs = omega arith in q) ∙ sym (last_at None r rs)
 
 -- what the check of the next row says of the adding
-module _ {C : Type 0} (g : Grant C) (row : Row) (m n : Node) (before : m ≡ node_of (get_or g.rows (g.count - 1) no_row)) (here : n ≡ node_of row) where
+module _ {C : Type 0} (g : Grant C) (row : Row) (m : Option Node) (n : Node) (before : m ≡ last_of None (nodes_of g)) (here : n ≡ node_of row) where
   rules : Rules
   rules = next_rules g.height (last_of None (nodes_of g)) (node_of row)
 
-  same : verdict (check_rules g.height (Some m) n) ≡ verdict rules
+  same : verdict (check_rules g.height m n) ≡ verdict rules
   unfolding rules
-  same =
-      in_range g.height (Some m) n g.low g.high
-      ∙ (λ i. verdict (next_rules g.height (Some (before i)) (here i)))
-      ∙ sym (ap (λ (o : Option Node). verdict (next_rules g.height o (node_of row))) (last_row g.count g.rows g.some (omega (arith, g.sized, g.fits))))
+  same = in_range g.height m n g.low g.high ∙ (λ i. verdict (next_rules g.height (before i) (here i)))
 
-  pub added_refused : (why : Refusal) → Err why ≡ verdict (check_rules g.height (Some m) n) → verdict (add_rules g row) ≡ Err why
+  pub added_refused : (why : Refusal) → Err why ≡ verdict (check_rules g.height m n) → verdict (add_rules g row) ≡ Err why
   unfolding rules
   added_refused why e = judged-found rules ((leb 128 (length (rows_of g)), TooManyRows) ∷ []) why (sym (e ∙ same))
 
-  pub added_passed : verdict (check_rules g.height (Some m) n) ≡ Ok tt → verdict (add_rules g row) ≡ verdict ((leb 128 (length (rows_of g)), TooManyRows) ∷ [])
+  pub added_passed : verdict (check_rules g.height m n) ≡ Ok tt → verdict (add_rules g row) ≡ verdict ((leb 128 (length (rows_of g)), TooManyRows) ∷ [])
   unfolding rules
   added_passed e = judged-rest rules ((leb 128 (length (rows_of g)), TooManyRows) ∷ []) (sym same ∙ e)
 
-  pub added_sound_grant : g.count < length g.rows → verdict (check_rules g.height (Some m) n) ≡ Ok tt → sound_rows g.height (g.count + 1) (set g.rows g.count row) ≡ true
-  added_sound_grant room e =
-      added_sound g.count g.rows g.height row g.some room g.sound
-      (sym (λ i. verdict (next_rules g.height (Some (before i)) (here i))) ∙ sym (in_range g.height (Some m) n g.low g.high) ∙ e)
+  pub added_sound : g.count < length g.rows → verdict (check_rules g.height m n) ≡ Ok tt → sound_rows g.height (g.count + 1) (set g.rows g.count row) ≡ true
+  unfolding rules
+  added_sound room e =
+      let free : first rules ≡ None = sym (refusal-judged rules tt) ∙ ap refusal (sym same ∙ e) in
+      ap (λ (rs : List Row). sound g.height (map node_of rs)) (take_more_set g.rows g.count row room)
+      ∙ ap (sound g.height) (map-append node_of (rows_of g) (row ∷ []))
+      ∙ sound_more g.height (nodes_of g) (node_of row) g.sound free
 
 -- a first row that passes
 pub first-passed : (height : ℕ) (row : Row) (n : Node) → n ≡ node_of row → verdict (check_rules height None n) ≡ Ok tt → (1 ≤ height) × (height ≤ 32) × (sound height (node_of row ∷ []) ≡ true)

@@ -1,18 +1,22 @@
 -- The row over a key. Assumes nothing.
-use Rattle.std.proofs.Common.{◌≡◌, ℕ, zero, suc, ◌+◌, ◌*◌, ◌/◌, ◌^◌, ◌<◌, ◌≤◌, Bool, true, false, cond, ltb, leb, List, [], ◌∷◌, map, length, get_or, take, drop, Some, None, sym, refl, ap, ◌∙◌, subst, arith, drop_of_length-le, drop-cons, pow_pos}
+use Rattle.std.proofs.Common.{◌≡◌, ℕ, zero, suc, ◌+◌, ◌*◌, ◌/◌, ◌^◌, ◌<◌, ◌≤◌, Bool, true, false, cond, ltb, leb, List, [], ◌∷◌, map, length, get_or, take, Some, Option, ◌≢◌, ◌&&◌, sym, refl, ap, ◌∙◌, subst, arith, pow_pos}
 use mathlib.Core.List.Memᴰ
 use mathlib.Core.List.{Memᴰ}
 use native.Mathlib.Nat.{div-eq_of_lt-le}
+use Rattle.std.specs.List.{find}
 use Rattle.std.proofs.Math.ListN.{get_or-map}
 use Rattle.std.proofs.lemmas.Nat.{shr_split, mod_below}
 use Rattle.std.proofs.lemmas.List.{length-take-le, get_or-take}
-use Rattle.std.proofs.lemmas.Bool.{cond-true, cond-false, cases_Bool, leb-true, ltb-true, le-leb, lt-ltb, and_parts, and_from}
+use Rattle.std.proofs.lemmas.Bool.{cases_Bool, leb-true, ltb-true, le-leb, lt-ltb, and_parts, and_from}
+use Rattle.std.proofs.lemmas.Bool.Decides.{eqb_tells}
+use Rattle.std.proofs.Math.Dec.{eqb}
 use Rattle.cover.specs.declared.node.Node.{Node}
 use Rattle.cover.specs.Tree.{first_key, past, stands, held, RowOf}
 use Rattle.cover.proofs.Sound.{sound-cover}
 use Rattle.grant.specs.declared.grant.row.Row.{Row}
 use Rattle.grant.specs.Rows.{node_of, sound_rows}
 use Rattle.grant.specs.Grants.{row_over}
+use Rattle.grant.specs.Filling.{over}
 
 abbrev pub no_row : Row
 no_row = record { level = 0; index = 0; seed = record { high = 0; low = 0 } }
@@ -26,41 +30,42 @@ pub member_map : {X Y : Type 0} (f : X → Y) (xs : List X) (x : X) → Memᴰ x
 member_map f [] x m = absurd (Memᴰ.not-nil m)
 member_map f (y ∷ xs) x m = mathlib.Core.Logic.⊎_elim (λ (e : x ≡ y). Memᴰ.head (ap f e)) (λ (q : Memᴰ x xs). Memᴰ.tail (member_map f xs x q)) (mathlib.Core.List.Memᴰ.cases_cons m)
 
--- a row of a grant lies in the tree
+-- each row of a grant is one of the cover of the keys under the rows
+row_in : (height count : ℕ) (rows : List Row) (r : Row) → sound_rows height count rows ≡ true → Memᴰ r (take count rows) → RowOf height (held (map node_of (take count rows))) (node_of r)
+row_in height count rows r e m = (sound-cover height (map node_of (take count rows)) e).row (node_of r) (member_map node_of (take count rows) r m)
+
 pub row_inside : (height count : ℕ) (rows : List Row) (i : ℕ) → sound_rows height count rows ≡ true → count ≤ length rows → i < count → RowOf height (held (map node_of (take count rows))) (node_of (get_or rows i no_row))
 row_inside height count rows i e fits h =
-    let c = sound-cover height (map node_of (take count rows)) e in
     let m = member_at (take count rows) i no_row (omega (arith, length-take-le count rows fits)) in
-    let at = get_or-take count rows i no_row h in
-    c.row (node_of (get_or rows i no_row)) (subst (λ (r : Row). Memᴰ (node_of r) (map node_of (take count rows))) at (member_map node_of (take count rows) (get_or (take count rows) i no_row) m))
+    row_in height count rows (get_or rows i no_row) e (subst (λ (r : Row). Memᴰ r (take count rows)) (get_or-take count rows i no_row h) m)
 
-pub stands_at : (n : Node) (k : ℕ) → k / 2 ^ n.level ≡ n.index → stands n k ≡ true
+stands_at : (n : Node) (k : ℕ) → k / 2 ^ n.level ≡ n.index → stands n k ≡ true
 stands_at n k e =
     let low = subst (λ (x : ℕ). x * 2 ^ n.level + Prim.Native.Nat.◌%◌ k (2 ^ n.level) ≡ k) e (shr_split k n.level) in
     let less = mod_below k (2 ^ n.level) (pow_pos n.level) in
     and_from (leb (first_key n) k) (ltb k (past n)) (le-leb (first_key n) k (omega arith)) (lt-ltb k (past n) (omega (arith, native.Mathlib.Nat.add-mul n.index 1 (2 ^ n.level))))
 
-pub stands-not : (n : Node) (k : ℕ) → (k / 2 ^ n.level ≡ n.index → ⊥) → stands n k ≡ false
+stands-not : (n : Node) (k : ℕ) → (k / 2 ^ n.level ≡ n.index → ⊥) → stands n k ≡ false
 stands-not n k not =
     mathlib.Core.Logic.⊎_elim
     (λ (e : stands n k ≡ true). let h = and_parts (leb (first_key n) k) (ltb k (past n)) e in absurd (not (div-eq_of_lt-le (2 ^ n.level) (leb-true (first_key n) k h.0) (ltb-true k (past n) h.1))))
     (λ (e : stands n k ≡ false). e)
     (cases_Bool (stands n k))
 
-module _ (count : ℕ) (rows : List Row) (k i : ℕ) (fits : count ≤ length rows) (inv : row_over (drop i (take count rows)) k ≡ row_over (take count rows) k) where
-  pub no_row-left : count ≤ i → None ≡ row_over (take count rows) k
-  no_row-left h = ap (λ (x : List Row). row_over x k) (sym (drop_of_length-le (take count rows) (omega (arith, length-take-le count rows fits)))) ∙ inv
+pub stands_is : (n : Node) (k : ℕ) → eqb (k / 2 ^ n.level) n.index ≡ stands n k
+stands_is n k =
+    mathlib.Core.Logic.⊎_elim
+    (λ (h : (eqb (k / 2 ^ n.level) n.index ≡ true) × (k / 2 ^ n.level ≡ n.index)). h.0 ∙ sym (stands_at n k h.1))
+    (λ (h : (eqb (k / 2 ^ n.level) n.index ≡ false) × (k / 2 ^ n.level ≢ n.index)). h.0 ∙ sym (stands-not n k h.1))
+    (eqb_tells (k / 2 ^ n.level) n.index)
 
-  one-row : i < count → row_over (get_or rows i no_row ∷ drop (suc i) (take count rows)) k ≡ row_over (take count rows) k
-  one-row h =
-      ap (λ (r : Row). row_over (r ∷ drop (suc i) (take count rows)) k) (sym (get_or-take count rows i no_row h)) ∙ ap (λ (x : List Row). row_over x k) (sym (drop-cons (take count rows) i no_row (omega (arith, length-take-le count rows fits)))) ∙ inv
-
-  pub row_here : i < count → k / 2 ^ (get_or rows i no_row).level ≡ (get_or rows i no_row).index → Some (get_or rows i no_row) ≡ row_over (take count rows) k
-  row_here h e = sym (cond-true (stands (node_of (get_or rows i no_row)) k) (Some (get_or rows i no_row)) _ (stands_at (node_of (get_or rows i no_row)) k e)) ∙ one-row h
-
-  pub row-later : i < count → (k / 2 ^ (get_or rows i no_row).level ≡ (get_or rows i no_row).index → ⊥) → row_over (drop (i + 1) (take count rows)) k ≡ row_over (take count rows) k
-  row-later h e =
-      ap (λ (x : ℕ). row_over (drop x (take count rows)) k) (native.Mathlib.Numerals.add-one i) ∙ sym (cond-false (stands (node_of (get_or rows i no_row)) k) (Some (get_or rows i no_row)) _ (stands-not (node_of (get_or rows i no_row)) k e)) ∙ one-row h
+-- among rows that are not above the highest level, the first over the key is found
+pub find_over : (rs : List Row) (k : ℕ) → ((r : Row) → Memᴰ r rs → r.level ≤ 32) → find (over k) rs ≡ row_over rs k
+find_over [] k low = refl
+find_over (r ∷ rs) k low =
+    let here : over k r ≡ stands (node_of r) k = ap (λ (b : Bool). b && stands (node_of r) k) (le-leb r.level 32 (low r (Memᴰ.head refl))) in
+    let there = find_over rs k (λ x m. low x (Memᴰ.tail m)) in
+    ap (λ (b : Bool). cond b (Some r) (find (over k) rs)) here ∙ ap (λ (o : Option Row). cond (stands (node_of r) k) (Some r) o) there
 
 pub under_member : (rs : List Row) (k : ℕ) (r : Row) → row_over rs k ≡ Some r → Memᴰ r rs × (stands (node_of r) k ≡ true)
 under_member [] k r e = let z : ◌≡◌ {A = ℕ} 0 1 = cc in absurd (omega arith)
@@ -71,8 +76,10 @@ under_member (x ∷ rs) k r e = by (stands (node_of x) k) refl e (under_member r
     by false s e below = let q = below e in (Memᴰ.tail q.0, q.1)
 
 pub under-inside : (height count : ℕ) (rows : List Row) (k : ℕ) (r : Row) → sound_rows height count rows ≡ true → row_over (take count rows) k ≡ Some r → RowOf height (held (map node_of (take count rows))) (node_of r)
-under-inside height count rows k r e u =
-    (sound-cover height (map node_of (take count rows)) e).row (node_of r) (member_map node_of (take count rows) r (under_member (take count rows) k r u).0)
+under-inside height count rows k r e u = row_in height count rows r e (under_member (take count rows) k r u).0
+
+pub rows-low : (height count : ℕ) (rows : List Row) → height ≤ 32 → sound_rows height count rows ≡ true → (r : Row) → Memᴰ r (take count rows) → r.level ≤ 32
+rows-low height count rows high e r m = let inside = row_in height count rows r e m in omega (arith, inside.low)
 
 pub node_at : (count : ℕ) (rows : List Row) (i : ℕ) → i < count → get_or (map node_of (take count rows)) i (node_of no_row) ≡ node_of (get_or rows i no_row)
 node_at count rows i h = get_or-map node_of (take count rows) i no_row ∙ ap node_of (get_or-take count rows i no_row h)

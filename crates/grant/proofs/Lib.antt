@@ -1,6 +1,7 @@
 mod Verdicts
 mod Walks
 mod Found
+mod Keyed
 mod Faults
 mod Filled
 mod Added

@@ -1,5 +1,5 @@
 -- Grants made row by row, and the key that a single row gives. Assumes nothing.
-use Rattle.std.specs.Prelude.{ℕ, cond, ◌&&◌, List, [], ◌∷◌, ◌++◌, length, take, Some, None, Ok, Err, Result, nat_le}
+use Rattle.std.specs.Prelude.{ℕ, Bool, cond, ◌&&◌, List, [], ◌∷◌, ◌++◌, length, take, Some, None, Ok, Err, Result, nat_le}
 use Rattle.refusal.specs.declared.Refusal.{Refusal}
 use Rattle.refusal.specs.declared.Refusal.TheVariants.{TooManyRows}
 use Rattle.refusal.specs.Judged.{Rules}
@@ -21,7 +21,11 @@ grant_data (Err why) = Err why
 abbrev pub add_rules : {C : Type 0} → Grant C → Row → Rules
 add_rules g row = next_rules g.height (last_of None (nodes_of g)) (node_of row) ++ ((nat_le 128 (length (rows_of g)), TooManyRows) ∷ [])
 
+-- Whether a row is one of some tree and stands over the key.
+abbrev pub over : ℕ → Row → Bool
+over k row = nat_le row.level 32 && stands (node_of row) k
+
 -- The key that a row gives, where it is a row of some tree and stands over the key.
 abbrev pub row_key : {G : Type 0} → Encrypted → ℕ → (List ℕ → G) → Row → Keys G
 row_key e width made row k =
-    cond (nat_le row.level 32 && stands (node_of row) k) (Some (made (take width (leaf_words e (walk e row.seed row.level k))))) None
+    cond (over k row) (Some (made (take width (leaf_words e (walk e row.seed row.level k))))) None

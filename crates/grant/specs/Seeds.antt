@@ -1,10 +1,14 @@
 -- The seeds of a key tree and its keys, for any cipher. Assumes nothing.
-use Rattle.std.specs.Prelude.{ℕ, zero, suc, ◌+◌, ◌/◌, ◌%◌, ◌^◌, cond, List, [], ◌∷◌, take, Some, None, Option, nat_lt}
+use Rattle.std.specs.Prelude.{ℕ, zero, suc, ◌+◌, ◌*◌, ◌/◌, ◌%◌, ◌^◌, cond, List, [], ◌∷◌, take, Some, None, Option, nat_lt, slice_index_or}
 use Rattle.cipher.specs.declared.Block.{Block}
 use Rattle.source.specs.Sources.{Keys}
 
 abbrev pub block : ℕ → ℕ → Block
 block high low = record { high = high; low = low }
+
+-- The seed in two words of a list, at an even place.
+abbrev pub seed_in : List ℕ → ℕ → Block
+seed_in words place = block (slice_index_or words (2 * place) 0) (slice_index_or words (2 * place + 1) 0)
 
 -- What a cipher makes of a key and a block.
 abbrev pub Encrypted : Type 0

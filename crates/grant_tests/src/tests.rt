@@ -1,4 +1,5 @@
 // Covers, refusals, scratch and keys of worked grants, at both ciphers.
+use Undone::{NotWiped, Refused};
 use cipher::{Aes128, Block, Cipher, Speck128};
 use cover::Span;
 use grant::{Grant, KeyTree, issue, narrow};
@@ -11,74 +12,65 @@ use store::{FlatStore, Store};
 
 const ROOT: Block = Block { high: 5, low: 9 };
 
-// What the calls below answer where scratch was left with a word that is not zero.
-const NOT_WIPED: u32 = 99;
+// Why a call below is not done.
+#[derive(Clone, Copy, Debug, PartialEq)]
+enum Undone {
+    // By the number of its refusal.
+    Refused(u32),
+    // It left a word of the scratch that is not zero.
+    NotWiped,
+}
 
-fn all_zero(words: &[u64]) -> bool {
-    for w in words {
-        if *w != 0 {
-            return false;
-        }
+fn done(answer: Result<(), Refusal>, scratch: &[u64]) -> Result<(), Undone> {
+    if scratch.iter().any(|word| *word != 0) {
+        return Err(NotWiped);
     }
-    true
+    answer.map_err(|why| Refused(why.number()))
 }
 
-// The number by which a call refused, or 0, where it wiped the scratch.
-fn number(answer: Result<(), Refusal>, scratch: &[u64]) -> u32 {
-    if !all_zero(scratch) {
-        return NOT_WIPED;
-    }
-    match answer {
-        Ok(()) => 0,
-        Err(why) => why.number(),
-    }
+fn issued_over<C: Cipher>(
+    tree: &KeyTree<C>,
+    spans: &[Span],
+    scratch: &mut [u64],
+    grant: &mut Grant<C>,
+) -> Result<(), Undone> {
+    let answer = issue(tree, spans, scratch, grant);
+    done(answer, scratch)
 }
 
-fn issued<C: Cipher>(tree: &KeyTree<C>, spans: &[Span], grant: &mut Grant<C>) -> u32 {
-    let mut scratch = [7u64; 70];
-    let answer = issue(tree, spans, &mut scratch, grant);
-    number(answer, &scratch)
+fn narrowed_over<C: Cipher>(
+    grant: &mut Grant<C>,
+    from: u64,
+    to: u64,
+    scratch: &mut [u64],
+) -> Result<(), Undone> {
+    let answer = narrow(grant, Span { from, to }, scratch);
+    done(answer, scratch)
 }
 
-fn narrowed<C: Cipher>(grant: &mut Grant<C>, from: u64, to: u64) -> u32 {
-    let mut scratch = [7u64; 66];
-    let answer = narrow(grant, Span { from, to }, &mut scratch);
-    number(answer, &scratch)
+fn issued<C: Cipher>(
+    tree: &KeyTree<C>,
+    spans: &[Span],
+    grant: &mut Grant<C>,
+) -> Result<(), Undone> {
+    issued_over(tree, spans, &mut [7; 70], grant)
 }
 
-// With too little scratch, and other faults too.
-fn short_of_scratch<C: Cipher>(tree: &KeyTree<C>, grant: &mut Grant<C>) -> (u32, u32) {
-    let mut scratch = [7u64; 65];
-    let answer = issue(tree, &[], &mut scratch, grant);
-    let first = number(answer, &scratch);
-    let mut scratch = [7u64; 65];
-    let answer = narrow(grant, Span { from: 9, to: 9 }, &mut scratch);
-    (first, number(answer, &scratch))
+fn narrowed<C: Cipher>(grant: &mut Grant<C>, from: u64, to: u64) -> Result<(), Undone> {
+    narrowed_over(grant, from, to, &mut [7; 66])
 }
 
 // Whether the rows of the grant are these nodes, each by its level and index.
 fn has_rows<C>(grant: &Grant<C>, nodes: &[(u32, u64)]) -> bool {
-    let rows = grant.rows();
-    if rows.len() != nodes.len() {
-        return false;
-    }
-    for i in 0..nodes.len() {
-        let (level, index) = nodes[i];
-        if rows[i].level != level || rows[i].index != index {
-            return false;
-        }
-    }
-    true
+    let rows = grant.rows().iter().map(|row| (row.level, row.index));
+    rows.eq(nodes.iter().copied())
 }
 
-// The words of a key at two kinds of figures; zeros where the grant lacks it.
-fn words<C: Cipher>(grant: &Grant<C>, number: u64) -> [u64; 4] {
-    let count: Option<Count> = grant.key(number);
-    let moments: Option<Moments> = grant.key(number);
-    let (Some(count), Some(moments)) = (count, moments) else {
-        return [0; 4];
-    };
-    [count.value, moments.count, moments.sum, moments.squares]
+// The words of a key at two kinds of figures, where the grant has it.
+fn words<C: Cipher>(grant: &Grant<C>, number: u64) -> Option<[u64; 4]> {
+    let count: Count = grant.key(number)?;
+    let moments: Moments = grant.key(number)?;
+    Some([count.value, moments.count, moments.sum, moments.squares])
 }
 
 #[test]
@@ -86,22 +78,22 @@ fn rows_of_spans(rt: HostRuntime) -> Result<(), Fail> {
     let tree: KeyTree<Aes128> = KeyTree::new(3, ROOT)?;
     let mut grant = Grant::first();
     assert!(rt; has_rows(&grant, &[(0, 0)]));
-    assert_eq!(rt; issued(&tree, &[Span { from: 1, to: 7 }], &mut grant), 0);
+    issued(&tree, &[Span { from: 1, to: 7 }], &mut grant)?;
     assert!(rt; has_rows(&grant, &[(0, 1), (1, 1), (1, 2), (0, 6)]));
-    assert_eq!(rt; narrowed(&mut grant, 2, 5), 0);
+    narrowed(&mut grant, 2, 5)?;
     assert!(rt; has_rows(&grant, &[(1, 1), (0, 4)]));
-    assert_eq!(rt; issued(&tree, &[Span { from: 0, to: 8 }], &mut grant), 0);
+    issued(&tree, &[Span { from: 0, to: 8 }], &mut grant)?;
     assert!(rt; has_rows(&grant, &[(3, 0)]));
     Ok(())
 }
 
 // Each refusal of an issue in a tree of height 3, and an issue that ends with the last key.
-fn issue_answers<C: Cipher>(tree: &KeyTree<C>, grant: &mut Grant<C>) -> [u32; 7] {
+fn issue_answers<C: Cipher>(tree: &KeyTree<C>, grant: &mut Grant<C>) -> [Result<(), Undone>; 7] {
     let empty = Span { from: 9, to: 9 };
     let below = Span { from: 1, to: 3 };
     let past = Span { from: 3, to: 9 };
     let touching = Span { from: 3, to: 8 };
-    let (short, _) = short_of_scratch(tree, grant);
+    let short = issued_over(tree, &[], &mut [7; 65], grant);
     let none = issued(tree, &[], grant);
     let many = issued(tree, &[empty; 17], grant);
     let nothing = issued(tree, &[empty], grant);
@@ -115,15 +107,26 @@ fn issue_answers<C: Cipher>(tree: &KeyTree<C>, grant: &mut Grant<C>) -> [u32; 7]
 fn issue_refuses_in_order(rt: HostRuntime) -> Result<(), Fail> {
     let tree: KeyTree<Speck128> = KeyTree::new(3, ROOT)?;
     let mut grant = Grant::first();
-    assert!(rt; issue_answers(&tree, &mut grant) == [19, 5, 6, 2, 3, 4, 0]);
+    assert!(rt;
+        issue_answers(&tree, &mut grant)
+            == [
+                Err(Refused(19)),
+                Err(Refused(5)),
+                Err(Refused(6)),
+                Err(Refused(2)),
+                Err(Refused(3)),
+                Err(Refused(4)),
+                Ok(())
+            ]
+    );
     assert!(rt; has_rows(&grant, &[(0, 3), (2, 1)]));
     Ok(())
 }
 
 // Each refusal of a narrow of keys 1 to 6.
-fn narrow_answers<C: Cipher>(tree: &KeyTree<C>, grant: &mut Grant<C>) -> [u32; 5] {
+fn narrow_answers<C: Cipher>(tree: &KeyTree<C>, grant: &mut Grant<C>) -> [Result<(), Undone>; 5] {
     let filled = issued(tree, &[Span { from: 1, to: 7 }], grant);
-    let (_, short) = short_of_scratch(tree, grant);
+    let short = narrowed_over(grant, 9, 9, &mut [7; 65]);
     let nothing = narrowed(grant, 9, 9);
     let beyond = narrowed(grant, 7, 9);
     let none_left = narrowed(grant, 7, 8);
@@ -134,13 +137,22 @@ fn narrow_answers<C: Cipher>(tree: &KeyTree<C>, grant: &mut Grant<C>) -> [u32; 5
 fn narrow_refuses_in_order(rt: HostRuntime) -> Result<(), Fail> {
     let tree: KeyTree<Speck128> = KeyTree::new(3, ROOT)?;
     let mut grant = Grant::first();
-    assert!(rt; narrow_answers(&tree, &mut grant) == [0, 19, 2, 3, 35]);
+    assert!(rt;
+        narrow_answers(&tree, &mut grant)
+            == [
+                Ok(()),
+                Err(Refused(19)),
+                Err(Refused(2)),
+                Err(Refused(3)),
+                Err(Refused(35))
+            ]
+    );
     assert!(rt; has_rows(&grant, &[(0, 1), (1, 1), (1, 2), (0, 6)]));
     Ok(())
 }
 
 // Spans of a tree of height 32: one row, twice 54 rows, and one row again. Cut at both ends they would be over 128.
-fn wide_answers<C: Cipher>(tree: &KeyTree<C>, grant: &mut Grant<C>) -> [u32; 3] {
+fn wide_answers<C: Cipher>(tree: &KeyTree<C>, grant: &mut Grant<C>) -> [Result<(), Undone>; 3] {
     let first = Span {
         from: 0,
         to: 0x10000000,
@@ -171,7 +183,7 @@ fn wide_answers<C: Cipher>(tree: &KeyTree<C>, grant: &mut Grant<C>) -> [u32; 3] 
 fn too_many_rows(rt: HostRuntime) -> Result<(), Fail> {
     let tree: KeyTree<Speck128> = KeyTree::new(32, ROOT)?;
     let mut grant = Grant::first();
-    assert!(rt; wide_answers(&tree, &mut grant) == [0, 7, 7]);
+    assert!(rt; wide_answers(&tree, &mut grant) == [Ok(()), Err(Refused(7)), Err(Refused(7))]);
     assert_eq!(rt; grant.rows().len(), 110);
     Ok(())
 }
@@ -181,18 +193,18 @@ fn too_many_rows(rt: HostRuntime) -> Result<(), Fail> {
 fn keys_under_aes(rt: HostRuntime) -> Result<(), Fail> {
     let tree: KeyTree<Aes128> = KeyTree::new(3, ROOT)?;
     let mut grant = Grant::first();
-    assert_eq!(rt; narrow_answers(&tree, &mut grant)[0], 0);
-    assert_eq!(rt; narrowed(&mut grant, 2, 5), 0);
+    narrow_answers(&tree, &mut grant)[0]?;
+    narrowed(&mut grant, 2, 5)?;
     assert!(rt;
         words(&grant, 3)
-            == [
+            == Some([
                 0x3b15acdbd9ac524b,
                 0x3b15acdbd9ac524b,
                 0x1a3d07889ab8a767,
                 0x9ae242e11a089820,
-            ]
+            ])
     );
-    assert!(rt; words(&grant, 1) == [0; 4] && words(&grant, 5) == [0; 4]);
+    assert!(rt; words(&grant, 1).is_none() && words(&grant, 5).is_none());
     Ok(())
 }
 
@@ -200,51 +212,43 @@ fn keys_under_aes(rt: HostRuntime) -> Result<(), Fail> {
 fn keys_under_speck(rt: HostRuntime) -> Result<(), Fail> {
     let tree: KeyTree<Speck128> = KeyTree::new(3, ROOT)?;
     let mut grant = Grant::first();
-    assert_eq!(rt; issued(&tree, &[Span { from: 3, to: 4 }], &mut grant), 0);
+    issued(&tree, &[Span { from: 3, to: 4 }], &mut grant)?;
     assert!(rt;
         words(&grant, 3)
-            == [
+            == Some([
                 0xc8e34025fe47267a,
                 0xc8e34025fe47267a,
                 0xfde7ad27ba03a5ef,
                 0x75329c0b102a3bec,
-            ]
+            ])
     );
     Ok(())
 }
 
-// Lines 10, 20, .. 60, sealed with the tree and opened through the grant, as a sum and as the number of a refusal.
-fn shared<C: Cipher>(tree: KeyTree<C>, grant: &Grant<C>, a: usize, b: usize) -> (u64, u32) {
+// Lines 10, 20, .. 60, sealed with the tree and opened through the grant, as a sum or the number of a refusal.
+fn shared<C: Cipher>(
+    tree: KeyTree<C>,
+    grant: &Grant<C>,
+    a: usize,
+    b: usize,
+) -> Result<Result<u64, u32>, Refusal> {
     let mut cells = [Count { value: 0 }; 6];
     let mut store = FlatStore::new(&mut cells);
     let epoch = Running::new(tree);
-    for i in 0..6 {
-        if epoch
-            .append(
-                &mut store,
-                Count {
-                    value: 10 * (i + 1),
-                },
-            )
-            .is_err()
-        {
-            return (0, NOT_WIPED);
-        }
+    for tens in 1..=6 {
+        epoch.append(&mut store, Count { value: 10 * tens })?;
     }
     let sum: Result<Count, Refusal> = open(&store, grant, a, b);
-    match sum {
-        Ok(figure) => (figure.value, 0),
-        Err(why) => (0, why.number()),
-    }
+    Ok(sum.map(|figure| figure.value).map_err(Refusal::number))
 }
 
 #[test]
 fn opens_what_was_granted(rt: HostRuntime) -> Result<(), Fail> {
     let tree: KeyTree<Speck128> = KeyTree::new(3, ROOT)?;
     let mut grant = Grant::first();
-    assert_eq!(rt; issued(&tree, &[Span { from: 2, to: 5 }], &mut grant), 0);
-    assert!(rt; shared(tree, &grant, 2, 4) == (70, 0));
-    assert!(rt; shared(KeyTree::new(3, ROOT)?, &grant, 1, 4) == (0, 33));
-    assert!(rt; shared(KeyTree::new(3, ROOT)?, &grant, 2, 5) == (0, 34));
+    issued(&tree, &[Span { from: 2, to: 5 }], &mut grant)?;
+    assert!(rt; shared(tree, &grant, 2, 4)? == Ok(70));
+    assert!(rt; shared(KeyTree::new(3, ROOT)?, &grant, 1, 4)? == Err(33));
+    assert!(rt; shared(KeyTree::new(3, ROOT)?, &grant, 2, 5)? == Err(34));
     Ok(())
 }

@@ -2,10 +2,10 @@
 ghost use Rattle.std.specs.Prelude.{◌≡◌, [], ◌∷◌, ◌++◌, None, Err};
 ghost use Rattle.refusal.specs.declared.Refusal.{Refusal as WhyRefused};
 ghost use Rattle.refusal.specs.Judged.{judged, left_by};
-ghost use Rattle.cover.specs.Next.{check_rules};
+ghost use Rattle.cover.specs.Next.{check_rules, last_of};
 ghost use Rattle.grant.specs.Rows.{node_of};
-ghost use Rattle.grant.specs.Grants.{rows_of};
-ghost use Rattle.grant.specs.Filling.{grant_data, add_rules, row_key};
+ghost use Rattle.grant.specs.Grants.{rows_of, nodes_of};
+ghost use Rattle.grant.specs.Filling.{grant_data, add_rules, over, row_key};
 
 use super::{Grant, Row};
 use crate::descent::{figure, leaf};
@@ -26,14 +26,18 @@ impl Row {
         }
     }
 
+    // Whether it is a row of some tree and stands over the key of this number.
+    pub(crate) fn is_over(&self, number: u64) -> bool
+        ensures { result ≡ over number self.now }
+    {
+        self.level <= 32 && number >> self.level == self.index
+    }
+
     // The key of this number, where the row stands over it.
     pub fn key<C: Cipher, G: Group>(&self, number: u64) -> Option<G>
         ensures { result ≡ row_key C.Cipher.encrypted G.Group.width G.Group.made self.now number }
     {
-        if self.level > 32 {
-            return None;
-        }
-        if number >> self.level != self.index {
+        if !self.is_over(number) {
             return None;
         }
         let seed = leaf::<C>(self.seed, self.level, number);
@@ -61,6 +65,13 @@ impl<C> Grant<C> {
         })
     }
 
+    // The node of the last row.
+    fn last_node(&self) -> Option<Node>
+        ensures { result ≡ last_of None (nodes_of self.now) }
+    {
+        self.rows().last().map(Row::node)
+    }
+
     // Adds a row after the others.
     pub fn add_row(&mut self, row: Row) -> Result<(), Refusal>
         ensures answers { result ≡ judged (add_rules self.old row) tt }
@@ -68,14 +79,12 @@ impl<C> Grant<C> {
         ensures rows { rows_of self.new ≡ left_by result (rows_of self.old) (rows_of self.old ++ (row ∷ [])) }
         ensures kept { (why : WhyRefused) → result ≡ Err why → self.new ≡ self.old }
     {
-        let last = self.rows[self.count - 1];
-        check_next(self.height, Some(last.node()), row.node())?;
-        let at = self.count;
-        if at == 128 {
+        check_next(self.height, self.last_node(), row.node())?;
+        if self.count == self.rows.len() {
             return Err(Refusal::TooManyRows);
         }
-        self.rows[at] = row;
-        self.count = at + 1;
+        self.rows[self.count] = row;
+        self.count += 1;
         Ok(())
     }
 }

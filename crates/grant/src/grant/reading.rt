@@ -6,7 +6,6 @@ ghost use Rattle.grant.specs.Grants.{rows_of, nodes_of, numbers_of, row_over, gr
 ghost use Rattle.grant.specs.Histories.{KeepsTo};
 
 use super::{Grant, Row};
-use crate::descent::{figure, leaf};
 use cipher::{Block, Cipher};
 use group::Group;
 use source::KeySource;
@@ -46,20 +45,14 @@ impl<C> Grant<C> {
         ensures few { length result.now ≤ 128 }
         ensures cover { Cover self.now.height (numbers_of self.now) (nodes_of self.now) }
     {
-        &self.rows[0..self.count]
+        &self.rows[..self.count]
     }
 
     // The row over a key, where there is one.
     pub fn row_over(&self, key: u64) -> Option<Row>
         ensures { result ≡ row_over (rows_of self.now) key }
     {
-        for i in 0..self.count {
-            let row = self.rows[i];
-            if key >> row.level == row.index {
-                return Some(row);
-            }
-        }
-        None
+        self.rows().iter().find(|row| row.is_over(key)).copied()
     }
 }
 
@@ -71,10 +64,7 @@ impl<G: Group, C: Cipher> KeySource<G> for Grant<C> {
         ensures is { result ≡ grant_keys C.Cipher.encrypted G.Group.width G.Group.made self.now number }
         ensures lawful { KeepsTo C.Cipher.encrypted G.Group.width G.Group.made self.now }
     {
-        let Some(row) = self.row_over(number) else {
-            return None;
-        };
-        let seed = leaf::<C>(row.seed, row.level, number);
-        Some(figure::<C, G>(seed))
+        let row = self.row_over(number)?;
+        row.key::<C, G>(number)
     }
 }

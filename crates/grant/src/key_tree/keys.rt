@@ -6,7 +6,7 @@ ghost use Rattle.grant.specs.Seeds.{tree_keys};
 ghost use Rattle.grant.specs.Trees.{tree_data};
 
 use super::KeyTree;
-use crate::descent::{figure, leaf};
+use crate::grant::Row;
 use cipher::{Block, Cipher};
 use group::Group;
 use refusal::Refusal;
@@ -18,7 +18,7 @@ impl<C> KeyTree<C> {
     pub fn new(height: u32, root: Block) -> Result<KeyTree<C>, Refusal>
         ensures { tree_data result ≡ judged (height_rules height) (height, root) }
     {
-        if height < 1 || height > 32 {
+        if !(1..=32).contains(&height) {
             return Err(Refusal::Height);
         }
         Ok(KeyTree {
@@ -29,15 +29,16 @@ impl<C> KeyTree<C> {
     }
 }
 
-// It has the keys below 2^height.
+// It has the keys below 2^height, which are those of its root's row.
 impl<G: Group, C: Cipher> KeySource<G> for KeyTree<C> {
     ghost keys = { λ t. tree_keys C.Cipher.encrypted G.Group.width G.Group.made t.height t.root };
 
     fn key(&self, number: u64) -> Option<G> {
-        if number >> self.height != 0 {
-            return None;
-        }
-        let seed = leaf::<C>(self.root, self.height, number);
-        Some(figure::<C, G>(seed))
+        let root = Row {
+            level: self.height,
+            index: 0,
+            seed: self.root,
+        };
+        root.key::<C, G>(number)
     }
 }

@@ -1,6 +1,6 @@
-use Rattle.std.proofs.Common.{◌≡◌, length, take}
+use Rattle.std.proofs.Common.{◌≡◌, take}
 use Rattle.grant.specs.Seeds.{leaf_words}
 use Rattle.grant.proofs.descent.figure.Given as goal
 
 abbrev pub invariant-loop-t : goal.invariant-loop-t
-invariant-loop-t g l = (length l.words ≡ 3) × (take l.t l.words ≡ take l.t (leaf_words g.C.Cipher.encrypted l.seed))
+invariant-loop-t g l = take l.t l.word-items ≡ take l.t (leaf_words g.C.Cipher.encrypted l.seed)

@@ -1,34 +1,18 @@
-use Rattle.std.proofs.Common.{◌≡◌, take, Some, None, Option, sym, ap, ◌∙◌, arith}
-use Rattle.cipher.specs.declared.Block.{Block}
-use Rattle.grant.specs.declared.grant.row.Row.{Row}
-use Rattle.grant.specs.Seeds.{figured, figures, leaf_words}
-use Rattle.grant.specs.Grants.{rows_of, words_from, grant_words}
-use Rattle.grant.proofs.Found.{under-inside}
+use Rattle.std.proofs.Common.{sym, ◌∙◌}
+use Rattle.grant.specs.Grants.{rows_of}
+use Rattle.grant.proofs.Found.{rows-low}
+use Rattle.grant.proofs.Keyed.{found_key}
 use Rattle.grant.proofs.Lawfully.{keeps_to}
 use Rattle.grant.proofs.grant.reading.GrantKeySource.key.Goals as goal
 
-pub leaf-seed-requires : goal.leaf-seed-requires
-leaf-seed-requires g c =
+pub returns-in_err-row-clause-lawful : goal.returns-in_err-row-clause-lawful
+returns-in_err-row-clause-lawful g c = keeps_to g.C.Cipher.encrypted g.G.Group.width g.G.Group.made c.args.self.now
+
+pub returns-clause-is : goal.returns-clause-is
+returns-clause-is g c =
     let s = c.args.self.now in
-    let r = under-inside s.height s.count s.rows c.args.number c.in-Some.row s.sound (sym c.row_over.ensures ∙ c.in-Some.is) in
-    omega (arith, r.low)
+    c.key.ensures
+    ∙ found_key g.C.Cipher.encrypted g.G.Group.width g.G.Group.made c.args.number (rows_of s) c.in_ok-row.row (rows-low s.height s.count s.rows s.high s.sound) (sym c.row_over.ensures ∙ c.in_ok-row.was)
 
-pub returns-in_default : goal.returns-in_default
-returns-in_default g c =
-    let e = g.C.Cipher.encrypted in
-    let width = g.G.Group.width in
-    let made = g.G.Group.made in
-    let k = c.args.number in
-    let is : None ≡ figures width made (grant_words e (rows_of c.args.self.now)) k = ap (λ (o : Option Row). figured width made (words_from e o k)) c.in_default.ensures in
-    record { is = is; lawful = keeps_to e width made c.args.self.now }
-
-pub returns : goal.returns
-returns g c =
-    let e = g.C.Cipher.encrypted in
-    let width = g.G.Group.width in
-    let made = g.G.Group.made in
-    let k = c.args.number in
-    let is : Some c.figure.result ≡ figures width made (grant_words e (rows_of c.args.self.now)) k =
-    ap Some (c.figure.ensures ∙ ap (λ (b : Block). made (take width (leaf_words e b))) c.leaf-seed.ensures)
-    ∙ ap (λ (o : Option Row). figured width made (words_from e o k)) (sym c.in-Some.is ∙ c.row_over.ensures) in
-    record { is = is; lawful = keeps_to e width made c.args.self.now }
+pub returns-clause-lawful : goal.returns-clause-lawful
+returns-clause-lawful g c = keeps_to g.C.Cipher.encrypted g.G.Group.width g.G.Group.made c.args.self.now
