@@ -2,24 +2,16 @@
 ghost use Rattle.std.specs.Prelude.{◌≡◌, ℕ, ◌+◌, ◌-◌, ◌*◌, ◌^◌, ◌<◌, ◌≤◌, ◌++◌, length, drop, replicate, decimal, MatchOption, ◌≢◌, slice_index};
 ghost use Rattle.grant_text.specs.Columns.{column};
 
+use itoa::write_digits;
+
 // Writes `n` over the whole of `out`.
 pub(crate) fn write_column(out: &mut [u8], n: u64)
     requires { length (decimal n) ≤ length out.old }
     ensures { out.new ≡ column (length out.old) n }
 {
-    let last = out.len() - 1;
-    out[last] = b'0' + (n % 10) as u8;
-    let mut rest = n / 10;
-    let mut i = last;
-    while i > 0 {
-        i -= 1;
-        out[i] = if rest == 0 {
-            b' '
-        } else {
-            b'0' + (rest % 10) as u8
-        };
-        rest /= 10;
-    }
+    let width = out.len();
+    let start = write_digits(n, out, width);
+    out[..start].fill(b' ');
 }
 
 // The number that the whole of `s` holds as a column, if it is one of 64 bits.
