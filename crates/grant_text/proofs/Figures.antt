@@ -3,11 +3,14 @@ use Rattle.std.proofs.Common.{◌≡◌, ℕ, suc, ◌+◌, ◌-◌, ◌*◌, �
 use Rattle.std.specs.Str.Parse.{digits_value, AllDigits}
 use Rattle.std.specs.Char.{digit_value as value_of_digit}
 use Rattle.std.specs.Int.Digits.{number_from_digits, number_from_digits_after}
-use Rattle.std.proofs.lemmas.List.{append_assoc, length-append, length-replicate, replicate_more, get_or-replicate, get_or_append_left, get_or-append_right, drop_at, drop-set, take-append-drop, map-append, length_push, length-drop, length-set, drop_all, take_all, nil_from_length}
+use Rattle.std.proofs.lemmas.List.{append_assoc, length-append, length-replicate, replicate_more, get_or-replicate, get_or_append_left, get_or-append_right, drop_at, drop-set, take-append-drop, map-append, length_push, length-drop, length-set, drop_all, take_all, nil_from_length, get_or-take, ext_get_or}
+use Rattle.std.specs.List.{prefix_len}
+use Rattle.std.proofs.lemmas.List.Folds.{length-prefix_len}
+use Rattle.std.proofs.lemmas.List.Sums.{prefix_len_passes}
 use Rattle.std.proofs.lemmas.Int.Digits.{digits_more, digits_value_more, digits_value_is, number_after_append, number_after_ge}
 use Rattle.std.proofs.lemmas.Str.Parse.{IsNumeralModel, numerals_by_value, tells_digits, digit_at}
 use Rattle.std.proofs.lemmas.Fmt.{decimal_digit, decimal_step, decimal_nonempty, first_decimal, digits_decimal, digits_value-decimal, decimal-digits_value}
-use Rattle.std.proofs.lemmas.Bool.{cases_eq, cases_lt, cases_order, cond-false, ne_eqb}
+use Rattle.std.proofs.lemmas.Bool.{cases_eq, cases_lt, cases_order, cond-false, ne_eqb, eqb-true}
 use Rattle.std.proofs.lemmas.Bool.Decides.{nat_tests}
 use Rattle.grant_text.specs.Columns.{column}
 
@@ -77,6 +80,16 @@ value-front k ds =
     digits_value_is 10 ds ∙ ap (λ l. number_from_digits 10 (map value_of_digit l)) (sym (take-append-drop k ds))
     ∙ ap (number_from_digits 10) (map-append value_of_digit (take k ds) (drop k ds)) ∙ number_after_append 10 0 front back in
     omega (arith, digits_value_is 10 (take k ds), number_after_ge 10 (number_from_digits 10 front) back (omega arith))
+
+-- what stands before the first byte that is no blank
+pub blanks_first : (s : List ℕ) → s ≡ replicate (prefix_len (λ b. eqb b 32) s) 32 ++ drop (prefix_len (λ b. eqb b 32) s) s
+blanks_first s =
+    let k : ℕ = prefix_len (λ b. eqb b 32) s in
+    let long : length (take k s) ≡ k = length-prefix_len (λ b. eqb b 32) s in
+    sym (take-append-drop k s)
+    ∙ ap (λ l. l ++ drop k s)
+    (ext_get_or 0 (take k s) (replicate k 32) (long ∙ sym (length-replicate k 32)) (λ i lt.
+    get_or-take k s i 0 (omega (arith, long)) ∙ eqb-true _ 32 (prefix_len_passes (λ b. eqb b 32) s i 0 (omega (arith, long))) ∙ sym (get_or-replicate k i 32 0 (omega (arith, long)))))
 
 -- blanks and then digits are a column
 pub column-from : (s : List ℕ) (b n : ℕ) → b ≤ length s → s ≡ replicate b 32 ++ drop b s → drop b s ≡ decimal n → s ≡ column (length s) n

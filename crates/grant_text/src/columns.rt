@@ -27,21 +27,14 @@ fn blanks(s: &[u8]) -> usize
     ensures blank { s.now ≡ replicate result 32 ++ drop result s.now }
     ensures stops { slice_index s.now result ≢ 32 }
 {
-    let mut n = 0;
-    while n < s.len() && s[n] == b' ' {
-        n += 1;
-    }
-    n
+    s.iter().take_while(|b| **b == b' ').count()
 }
 
 // The number whose digits are the whole of `s`, with no zero before them but a lone 0.
 fn read_decimal(s: &[u8]) -> Option<u64>
     ensures { MatchOption result ((n : ℕ) → n < 2 ^ 64 → s.now ≢ decimal n) (λ n. s.now ≡ decimal n) }
 {
-    if s.is_empty() {
-        return None;
-    }
-    if s[0] == b'0' && s.len() > 1 {
+    if let [] | [b'0', _, ..] = s {
         return None;
     }
     let mut n = 0;
