@@ -1,5 +1,5 @@
 -- Which figures fit their columns, and how long lines are. Assumes nothing.
-use Rattle.std.proofs.Common.{◌≡◌, ℕ, ◌+◌, ◌-◌, ◌*◌, ◌%◌, ◌^◌, ◌<◌, ◌≤◌, List, [], ◌∷◌, ◌++◌, length, take, drop, replicate, decimal, sym, ap, ◌∙◌, arith, pow-add}
+use Rattle.std.proofs.Common.{◌≡◌, ℕ, ◌+◌, ◌-◌, ◌*◌, ◌%◌, ◌^◌, ◌<◌, ◌≤◌, List, [], ◌∷◌, ◌++◌, length, take, drop, set, replicate, decimal, refl, sym, ap, ◌∙◌, subst, arith, pow-add}
 use native.Mathlib.Nat.{pow-le-pow_right}
 use Rattle.std.proofs.lemmas.List.{length-append, length-replicate, length_push}
 use Rattle.std.proofs.lemmas.Fmt.{length-decimal-le, decimal_by_steps}
@@ -62,3 +62,13 @@ length-row_line r fits =
 pub length-heading : (h k : ℕ) → h < 10 ^ 3 → k < 10 ^ 4 → length (heading h k) ≡ 12
 unfolding sizes
 length-heading h k low few = simp length-append (omega (arith, length-column 3 h (fits_3 h low), length-column 4 k (fits_4 k few)))
+
+-- a column over the whole of a part that is w wide
+pub wide : (w n : ℕ) (part out : List ℕ) → length part ≡ w → out ≡ column (length part) n → out ≡ column w n
+wide w n part out long is = subst (λ k. out ≡ column k n) long is
+
+-- the one byte of a part is written
+pub last_byte : (part : List ℕ) (b : ℕ) → length part ≡ 1 → set part 0 b ≡ b ∷ []
+last_byte [] b long = absurd (omega arith)
+last_byte (x ∷ []) b long = refl
+last_byte (x ∷ (y ∷ part)) b long = absurd (omega arith)

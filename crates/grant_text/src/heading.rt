@@ -51,8 +51,11 @@ pub(crate) fn write_heading(out: &mut [u8], height: u32, count: usize)
     requires few { count < 10 ^ 4 }
     ensures { out.new ≡ heading height count }
 {
-    out[0..4].copy_from_slice(b"PASS");
-    write_column(&mut out[4..7], height as u64);
-    write_column(&mut out[7..11], count as u64);
-    out[11] = b'\n';
+    let (letters, out) = out.split_at_mut(4);
+    let (tall, out) = out.split_at_mut(3);
+    let (many, end) = out.split_at_mut(4);
+    letters.copy_from_slice(b"PASS");
+    write_column(tall, u64::from(height));
+    write_column(many, count as u64);
+    end[0] = b'\n';
 }

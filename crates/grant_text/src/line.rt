@@ -42,9 +42,13 @@ pub(crate) fn write_line(out: &mut [u8], row: Row)
     ensures is { out.new ≡ row_line row }
     ensures fits { FitsLine row }
 {
-    write_column(&mut out[0..3], row.level as u64);
-    write_column(&mut out[3..14], row.index);
-    write_column(&mut out[14..35], row.seed.high);
-    write_column(&mut out[35..56], row.seed.low);
-    out[56] = b'\n';
+    let (level, out) = out.split_at_mut(3);
+    let (index, out) = out.split_at_mut(11);
+    let (high, out) = out.split_at_mut(21);
+    let (low, end) = out.split_at_mut(21);
+    write_column(level, u64::from(row.level));
+    write_column(index, row.index);
+    write_column(high, row.seed.high);
+    write_column(low, row.seed.low);
+    end[0] = b'\n';
 }
