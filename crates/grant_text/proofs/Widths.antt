@@ -8,7 +8,6 @@ use Rattle.grant_text.specs.Columns.{column}
 use Rattle.grant_text.specs.Texts.{sizes, heading, row_line}
 use Rattle.grant_text.specs.Readings.{FitsLine}
 use Rattle.grant_text.proofs.Figures.{length-column}
-use Rattle.grant_text.proofs.Fronts.{length_part}
 
 pub column-room : (w n : ℕ) → length (column w n) ≡ w → length (decimal n) ≤ w
 unfolding column
@@ -26,14 +25,9 @@ decimal-below =
     let more : 10 ^ length (ds ++ ((48 + n % 10) ∷ [])) ≡ 10 ^ length ds * 10 = ap (λ (k : ℕ). 10 ^ k) (length_push ds (48 + n % 10)) ∙ pow-add 10 (length ds) 1 in
     omega (arith, more))
 
-column-below : (w n : ℕ) → n < 2 ^ 64 → length (column w n) ≡ w → n < 10 ^ w
-column-below w n small e = omega (arith, decimal-below n small, pow-le-pow_right {n = 10} (omega arith) (column-room w n e))
-
--- a number that a part holds as a column fits it
-pub part-below : (a w n : ℕ) (s : List ℕ) → n < 2 ^ 64 → a + w ≤ length s → take w (drop a s) ≡ column (length (take w (drop a s))) n → n < 10 ^ w
-part-below a w n s small h e =
-    let wide = length_part a w s h in
-    column-below w n small (ap length (sym (e ∙ ap (λ (k : ℕ). column k n) wide)) ∙ wide)
+-- and a number fits what its digits fit
+pub digits-fit : (w n : ℕ) → n < 2 ^ 64 → length (decimal n) ≤ w → n < 10 ^ w
+digits-fit w n small room = omega (arith, decimal-below n small, pow-le-pow_right {n = 10} (omega arith) room)
 
 -- what fits its column
 pub fits_3 : (n : ℕ) → n < 10 ^ 3 → length (decimal n) ≤ 3

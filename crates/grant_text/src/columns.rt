@@ -1,5 +1,5 @@
 // Figures in fixed columns: decimal, at the right, blanks before.
-ghost use Rattle.std.specs.Prelude.{◌≡◌, ℕ, ◌+◌, ◌-◌, ◌*◌, ◌^◌, ◌<◌, ◌≤◌, ◌++◌, length, drop, replicate, decimal, MatchOption, ◌≢◌, slice_index};
+ghost use Rattle.std.specs.Prelude.{◌≡◌, ℕ, ◌+◌, ◌-◌, ◌*◌, ◌^◌, ◌<◌, ◌≤◌, List, ◌++◌, length, drop, replicate, decimal, MatchOption, ◌≢◌, slice_index};
 ghost use Rattle.grant_text.specs.Columns.{column};
 
 use itoa::write_digits;
@@ -14,8 +14,17 @@ pub(crate) fn write_column(out: &mut [u8], n: u64)
     out[..start].fill(b' ');
 }
 
+// The number that the first `width` bytes of `s` hold as a column, and what stands after them.
+pub(crate) fn take_column(s: &[u8], width: usize) -> Option<(u64, &[u8])>
+    ensures { MatchOption result ((n : ℕ) (rest : List ℕ) → n < 2 ^ 64 → length (decimal n) ≤ width → s.now ≢ column width n ++ rest) (λ p. (length (decimal p.0) ≤ width) × (s.now ≡ column width p.0 ++ p.1.now)) }
+{
+    let (front, rest) = s.split_at_checked(width)?;
+    let n = read_column(front)?;
+    Some((n, rest))
+}
+
 // The number that the whole of `s` holds as a column, if it is one of 64 bits.
-pub(crate) fn read_column(s: &[u8]) -> Option<u64>
+fn read_column(s: &[u8]) -> Option<u64>
     ensures { MatchOption result ((n : ℕ) → n < 2 ^ 64 → s.now ≢ column (length s.now) n) (λ n. s.now ≡ column (length s.now) n) }
 {
     read_decimal(&s[blanks(s)..])

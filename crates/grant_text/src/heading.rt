@@ -4,7 +4,7 @@ ghost use Rattle.refusal.specs.declared.Refusal.TheVariants.{Heading};
 ghost use Rattle.grant_text.specs.Texts.{sizes, heading};
 ghost use Rattle.grant_text.specs.Readings.{Headed};
 
-use crate::columns::{read_column, write_column};
+use crate::columns::{take_column, write_column};
 use refusal::Refusal;
 
 // Height and number of rows, by a heading in form and in range.
@@ -37,12 +37,12 @@ fn after_letters(text: &[u8]) -> Option<&[u8]>
 fn read_sizes(rest: &[u8]) -> Option<(u64, u64)>
     ensures { MatchOption result ((h k : ℕ) → h < 2 ^ 64 → k < 2 ^ 64 → take 8 rest.now ≢ sizes h k) (λ p. take 8 rest.now ≡ sizes p.0 p.1) }
 {
-    if rest.len() < 8 || rest[7] != b'\n' {
-        return None;
+    let (height, rest) = take_column(rest, 3)?;
+    let (count, rest) = take_column(rest, 4)?;
+    match rest {
+        [b'\n', ..] => Some((height, count)),
+        _ => None,
     }
-    let height = read_column(&rest[0..3])?;
-    let count = read_column(&rest[3..7])?;
-    Some((height, count))
 }
 
 pub(crate) fn write_heading(out: &mut [u8], height: u32, count: usize)

@@ -4,22 +4,21 @@ ghost use Rattle.grant.specs.declared.grant.row.Row.{Row as ARow};
 ghost use Rattle.grant_text.specs.Texts.{row_line};
 ghost use Rattle.grant_text.specs.Readings.{FitsLine, Shows};
 
-use crate::columns::{read_column, write_column};
+use crate::columns::{take_column, write_column};
 use cipher::Block;
 use grant::Row;
 
 // The row of a line in form.
 fn read_line(s: &[u8]) -> Option<Row>
-    requires { length s.now ≡ 57 }
     ensures { MatchOption result ((x : ARow) → FitsLine x → s.now ≢ row_line x) (λ x. FitsLine x × (s.now ≡ row_line x)) }
 {
-    if s[56] != b'\n' {
+    let (level, s) = take_column(s, 3)?;
+    let (index, s) = take_column(s, 11)?;
+    let (high, s) = take_column(s, 21)?;
+    let (low, end) = take_column(s, 21)?;
+    if end != b"\n".as_slice() {
         return None;
     }
-    let level = read_column(&s[0..3])?;
-    let index = read_column(&s[3..14])?;
-    let high = read_column(&s[14..35])?;
-    let low = read_column(&s[35..56])?;
     Some(Row {
         level: level as u32,
         index,
