@@ -7,20 +7,32 @@ ghost use Rattle.grant_text.specs.Readings.{Headed};
 use crate::columns::{take_column, write_column};
 use refusal::Refusal;
 
-// Height and number of rows, by a heading in form and in range.
-pub(crate) fn read_heading(text: &[u8]) -> Result<(u32, usize), Refusal>
-    ensures { MatchResult result (λ p. Headed text.now p.0 p.1) (λ e. (e ≡ Heading) × ((h k : ℕ) → Headed text.now h k → ⊥)) }
+// What a heading says: the height of the tree, and how many rows follow.
+#[derive(Clone, Copy)]
+pub(crate) struct Sizes {
+    pub(crate) height: u32,
+    pub(crate) count: usize,
+}
+
+// The sizes that a heading in form and in range says.
+pub(crate) fn read_heading(text: &[u8]) -> Result<Sizes, Refusal>
+    ensures { MatchResult result (λ s. Headed text.now s.height s.count) (λ e. (e ≡ Heading) × ((h k : ℕ) → Headed text.now h k → ⊥)) }
 {
-    let Some(rest) = after_letters(text) else {
-        return Err(Refusal::Heading);
-    };
-    let Some((height, count)) = read_sizes(rest) else {
-        return Err(Refusal::Heading);
-    };
-    if height < 1 || height > 32 || count < 1 || count > 128 {
-        return Err(Refusal::Heading);
+    sizes_in_form(text).ok_or(Refusal::Heading)
+}
+
+fn sizes_in_form(text: &[u8]) -> Option<Sizes>
+    ensures { MatchOption result ((h k : ℕ) → Headed text.now h k → ⊥) (λ s. Headed text.now s.height s.count) }
+{
+    let rest = after_letters(text)?;
+    let (height, count) = read_sizes(rest)?;
+    if !(1..=32).contains(&height) || !(1..=128).contains(&count) {
+        return None;
     }
-    Ok((height as u32, count as usize))
+    Some(Sizes {
+        height: height as u32,
+        count: count as usize,
+    })
 }
 
 // What stands after the letters.
@@ -45,17 +57,17 @@ fn read_sizes(rest: &[u8]) -> Option<(u64, u64)>
     }
 }
 
-pub(crate) fn write_heading(out: &mut [u8], height: u32, count: usize)
+pub(crate) fn write_heading(out: &mut [u8], sizes: Sizes)
     requires long { length out.old ≡ 12 }
-    requires low { height < 10 ^ 3 }
-    requires few { count < 10 ^ 4 }
-    ensures { out.new ≡ heading height count }
+    requires low { sizes.height < 10 ^ 3 }
+    requires few { sizes.count < 10 ^ 4 }
+    ensures { out.new ≡ heading sizes.height sizes.count }
 {
     let (letters, out) = out.split_at_mut(4);
-    let (tall, out) = out.split_at_mut(3);
-    let (many, end) = out.split_at_mut(4);
+    let (height, out) = out.split_at_mut(3);
+    let (count, end) = out.split_at_mut(4);
     letters.copy_from_slice(b"PASS");
-    write_column(tall, u64::from(height));
-    write_column(many, count as u64);
+    write_column(height, u64::from(sizes.height));
+    write_column(count, sizes.count as u64);
     end[0] = b'\n';
 }

@@ -5,16 +5,16 @@ use Rattle.grant_text.proofs.Widths.{fits_3, fits_4, wide, last_byte}
 use Rattle.grant_text.proofs.heading.write_heading.Goals as goal
 
 pub write_column-requires : goal.write_column-requires
-write_column-requires c = omega (arith, fits_3 c.from.result (omega (arith, c.from.ensures, c.requires.low)), c.split_at_mut-tall.ensures.front_len)
+write_column-requires c = omega (arith, fits_3 c.from.result (omega (arith, c.from.ensures, c.requires.low)), c.split_at_mut-height.ensures.front_len)
 
 pub write_column-requires-2 : goal.write_column-requires-2
-write_column-requires-2 c = omega (arith, fits_4 c.args.count c.requires.few, c.split_at_mut-many.ensures.front_len)
+write_column-requires-2 c = omega (arith, fits_4 c.args.sizes.count c.requires.few, c.split_at_mut-count.ensures.front_len)
 
 pub returns : goal.returns
 unfolding sizes
 returns c =
     let letters = c.copy_from_slice.ensures.after in
-    let tall = wide 3 c.from.result _ _ c.split_at_mut-tall.ensures.front_len c.write_column.ensures ∙ ap (column 3) c.from.ensures in
-    let many = wide 4 c.args.count _ _ c.split_at_mut-many.ensures.front_len c.write_column-2.ensures in
-    let end = last_byte c.split_at_mut-many.result.1.now 10 (omega (arith, c.requires.long, c.split_at_mut-letters.ensures.back_len, c.split_at_mut-tall.ensures.back_len, c.split_at_mut-many.ensures.back_len)) in
-    λ i. letters i ++ (tall i ++ (many i ++ end i))
+    let height = wide 3 c.from.result _ _ c.split_at_mut-height.ensures.front_len c.write_column.ensures ∙ ap (column 3) c.from.ensures in
+    let count = wide 4 c.args.sizes.count _ _ c.split_at_mut-count.ensures.front_len c.write_column-2.ensures in
+    let end = last_byte c.split_at_mut-count.result.1.now 10 (omega (arith, c.requires.long, c.split_at_mut-letters.ensures.back_len, c.split_at_mut-height.ensures.back_len, c.split_at_mut-count.ensures.back_len)) in
+    λ i. letters i ++ (height i ++ (count i ++ end i))
