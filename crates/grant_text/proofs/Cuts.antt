@@ -1,6 +1,6 @@
 -- A text is cut into its columns in one way. Assumes nothing.
-use Rattle.std.proofs.Common.{◌≡◌, ℕ, ◌+◌, ◌-◌, ◌*◌, ◌^◌, ◌<◌, ◌≤◌, List, [], ◌∷◌, ◌++◌, length, get_or, take, drop, replicate, codes, decimal, sym, refl, ap, ◌∙◌, arith, take-add}
-use Rattle.std.proofs.lemmas.List.{append_assoc, take-append-drop, length-append, length-replicate, length-take, take_at, drop_at, drop-drop, drop-take, take-take, take_all, take_more, get_or-append_right, get_or-drop, get_or-take, drop_more, take_rest, append_cancel_left}
+use Rattle.std.proofs.Common.{◌≡◌, ℕ, ◌+◌, ◌-◌, ◌*◌, ◌^◌, ◌<◌, ◌≤◌, List, [], ◌∷◌, ◌++◌, length, get_or, take, drop, replicate, codes, decimal, sym, ap, ◌∙◌, arith}
+use Rattle.std.proofs.lemmas.List.{append_assoc, take-append-drop, length-append, length-replicate, length-take, take_at, drop_at, drop-take, take-take, get_or-append_right, drop_more, take_rest, append_cancel_left}
 use Rattle.std.proofs.lemmas.Str.Parse.{digit_at}
 use Rattle.std.proofs.lemmas.Fmt.{decimal_nonempty, digits_decimal, decimal_injective}
 use Rattle.grant_text.specs.Columns.{column}

@@ -1,4 +1,4 @@
-use Rattle.std.proofs.Common.{◌++◌, ap, ◌∙◌, arith, rules}
+use Rattle.std.proofs.Common.{◌++◌, ap, ◌∙◌, arith}
 use Rattle.grant_text.specs.Columns.{column}
 use Rattle.grant_text.specs.Texts.{sizes}
 use Rattle.grant_text.proofs.Widths.{fits_3, fits_4, wide, last_byte}

@@ -67,8 +67,7 @@ returns c =
     let level = c.in_ok-level.ensures in
     let index = c.in_ok-index.ensures in
     let high = c.in_ok-high.ensures in
-    let low = c.in_ok-low.ensures in
-    (
+    let low = c.in_ok-low.ensures in (
       (digits-fit 3 _ (search rules) level.0, digits-fit 11 _ (search rules) index.0, search rules, search rules),
       rw (level.1, index.1, high.1, low.1, end) refl,
     )
