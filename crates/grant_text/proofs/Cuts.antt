@@ -80,6 +80,3 @@ letters_join s h a b c d =
 
 pub letters_cut : (bs rest : List ℕ) (h k : ℕ) → bs ≡ codes "PASS" ++ rest → take 12 bs ≡ heading h k → take 8 rest ≡ sizes h k
 letters_cut bs rest h k e f = append_cancel_left (codes "PASS") (take 8 rest) (sizes h k) (ap (take 12) (sym e) ∙ f)
-
-pub line_is : (i : ℕ) (bs : List ℕ) → line i bs ≡ take (69 + 57 * i - (12 + 57 * i)) (drop (12 + 57 * i) bs)
-line_is i bs = let k : 57 ≡ 69 + 57 * i - (12 + 57 * i) = omega arith in ap (λ n. take n (drop (12 + 57 * i) bs)) k

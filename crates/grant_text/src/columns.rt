@@ -57,8 +57,6 @@ fn read_decimal(s: &[u8]) -> Option<u64>
 fn push_digit(n: u64, b: u8) -> Option<u64>
     ensures { MatchOption result (48 ≤ b → b < 58 → 2 ^ 64 ≤ n * 10 + (b - 48)) (λ m. (48 ≤ b) × (b < 58) × (m ≡ n * 10 + (b - 48))) }
 {
-    match b {
-        b'0'..=b'9' => n.checked_mul(10)?.checked_add((b - b'0') as u64),
-        _ => None,
-    }
+    let digit = char::from(b).to_digit(10)?;
+    n.checked_mul(10)?.checked_add(u64::from(digit))
 }

@@ -31,7 +31,8 @@ pub(crate) fn row_at(text: &[u8], i: usize) -> Option<Row>
     requires { 69 + 57 * i ≤ length text.now }
     ensures { MatchOption result ((x : ARow) → Shows text.now i x → ⊥) (λ x. Shows text.now i x) }
 {
-    read_line(&text[12 + 57 * i..69 + 57 * i])
+    let (_, lines) = text.split_at(12 + 57 * i);
+    read_line(&lines[..57])
 }
 
 pub(crate) fn write_line(out: &mut [u8], row: Row)
