@@ -1,12 +1,12 @@
 -- A text is cut into its columns in one way. Assumes nothing.
-use Rattle.std.proofs.Common.{◌≡◌, ℕ, ◌+◌, ◌-◌, ◌*◌, ◌^◌, ◌<◌, ◌≤◌, List, [], ◌∷◌, ◌++◌, length, get_or, take, drop, replicate, codes, decimal, sym, ap, ◌∙◌, arith}
+use Rattle.std.proofs.Common.{◌≡◌, ℕ, ◌+◌, ◌-◌, ◌^◌, ◌<◌, ◌≤◌, List, [], ◌∷◌, ◌++◌, length, get_or, take, drop, replicate, codes, decimal, sym, ap, ◌∙◌, arith}
 use Rattle.std.proofs.lemmas.List.{append_assoc, take-append-drop, length-append, length-replicate, length-take, take_at, drop_at, drop-take, take-take, get_or-append_right, drop_more, take_rest, append_cancel_left}
 use Rattle.std.proofs.lemmas.Str.Parse.{digit_at}
 use Rattle.std.proofs.lemmas.Fmt.{decimal_nonempty, digits_decimal, decimal_injective}
 use Rattle.grant_text.specs.Columns.{column}
 use Rattle.grant.specs.declared.grant.row.Row.{Row}
 use Rattle.grant_text.specs.Texts.{sizes, heading, row_line}
-use Rattle.grant_text.specs.Readings.{FitsLine, line}
+use Rattle.grant_text.specs.Readings.{FitsLine}
 use Rattle.grant_text.proofs.Figures.{own, length-column, length-column-le, column-split}
 use Rattle.grant_text.proofs.Widths.{column-room, fits_3, fits_11, fits_21}
 
