@@ -7,7 +7,6 @@ use Rattle.grant.specs.declared.grant.row.Row.{Row}
 use Rattle.grant.specs.Rows.{zero_row}
 use Rattle.grant_text.specs.Texts.{heading, row_line}
 use Rattle.grant_text.specs.Readings.{FitsLine, AllFit, Headed, line, Shows, Begins}
-use Rattle.grant_text.proofs.Fronts.{length_part}
 use Rattle.grant_text.proofs.Widths.{length-row_line, length-heading}
 use Rattle.grant_text.proofs.Cuts.{part_of_take, row_same, sizes-same}
 
@@ -74,12 +73,9 @@ module _ (bs : List ℕ) (h k : ℕ) where
       ∙ ap (λ (t : List ℕ). take 57 t) (sym (drop-drop (57 * i) 12 (heading h k ++ flat_map row_line rows)) ∙ ap (drop (57 * i)) (drop_at (heading h k) (flat_map row_line rows) 12 long))
       ∙ joined_line rows b.fit i lt
 
-  length-line : (i : ℕ) → i < k → length bs ≡ 12 + 57 * k → length (line i bs) ≡ 57
-  length-line i lt long = length_part (12 + 57 * i) 57 bs (omega arith)
-
   pub same_row : (rows : List Row) (r : Row) → Begins bs h k rows → (i : ℕ) → i < length rows → Shows bs i r → r ≡ get_or rows i zero_row
   same_row rows r b i lt shown =
-      row_same (line i bs) r (get_or rows i zero_row) (length-line i (omega (arith, b.few)) b.long) shown.0 (b.fit i lt) shown.1 (line_at rows b i lt)
+      row_same (line i bs) r (get_or rows i zero_row) shown.0 (b.fit i lt) shown.1 (line_at rows b i lt)
 
   -- the shorter of two beginnings is the front of the longer
   pub same-front : (rows others : List Row) → Begins bs h k rows → Begins bs h k others → length rows ≤ length others → rows ≡ take (length rows) others

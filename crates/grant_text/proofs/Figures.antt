@@ -1,13 +1,16 @@
 -- Laws of columns: they have their width, are written from the right, and are read back. Assumes nothing.
-use Rattle.std.proofs.Common.{◌≡◌, ℕ, suc, ◌+◌, ◌-◌, ◌*◌, ◌/◌, ◌%◌, ◌^◌, ◌<◌, ◌≤◌, cond, eqb, List, [], ◌∷◌, ◌++◌, map, length, get_or, take, drop, set, replicate, Some, None, decimal, Option, sym, ap, ◌∙◌, subst, ⊎_elim, add-one, arith, MatchOption}
+use Rattle.std.proofs.Common.{◌≡◌, ℕ, ◌+◌, ◌-◌, ◌*◌, ◌^◌, ◌<◌, ◌≤◌, eqb, List, ◌++◌, map, length, get_or, take, drop, replicate, Some, None, decimal, Option, sym, ap, ◌∙◌, subst, ⊎_elim, arith, MatchOption}
 use Rattle.std.specs.Str.Parse.{digits_value, AllDigits}
 use Rattle.std.specs.Char.{digit_value as value_of_digit}
 use Rattle.std.specs.Int.Digits.{number_from_digits, number_from_digits_after}
-use Rattle.std.proofs.lemmas.List.{append_assoc, length-append, length-replicate, replicate_more, get_or-replicate, get_or_append_left, get_or-append_right, drop_at, drop-set, take-append-drop, map-append, length_push, length-drop, length-set, drop_all, take_all, nil_from_length}
+use Rattle.std.proofs.lemmas.List.{length-append, length-replicate, get_or-replicate, get_or_append_left, get_or-append_right, drop_at, take-append-drop, map-append, length-drop, take_all, get_or-take, ext_get_or}
+use Rattle.std.specs.List.{prefix_len}
+use Rattle.std.proofs.lemmas.List.Folds.{length-prefix_len}
+use Rattle.std.proofs.lemmas.List.Sums.{prefix_len_passes}
 use Rattle.std.proofs.lemmas.Int.Digits.{digits_more, digits_value_more, digits_value_is, number_after_append, number_after_ge}
 use Rattle.std.proofs.lemmas.Str.Parse.{IsNumeralModel, numerals_by_value, tells_digits, digit_at}
-use Rattle.std.proofs.lemmas.Fmt.{decimal_digit, decimal_step, decimal_nonempty, first_decimal, digits_decimal, digits_value-decimal, decimal-digits_value}
-use Rattle.std.proofs.lemmas.Bool.{cases_eq, cases_lt, cases_order, cond-false, ne_eqb}
+use Rattle.std.proofs.lemmas.Fmt.{decimal_digit, decimal_nonempty, first_decimal, digits_decimal, digits_value-decimal, decimal-digits_value}
+use Rattle.std.proofs.lemmas.Bool.{cases_eq, cases_order, eqb-true}
 use Rattle.std.proofs.lemmas.Bool.Decides.{nat_tests}
 use Rattle.grant_text.specs.Columns.{column}
 
@@ -25,50 +28,6 @@ length-column-le w n =
     let long : length blanks ≡ w - length (decimal n) = length-replicate (w - length (decimal n)) 32 in
     omega (arith, length-append blanks (decimal n))
 
--- what stands before the digits written so far: n, or nothing but blanks
-abbrev pub lead : ℕ → ℕ → List ℕ
-lead w n = cond (eqb n 0) (replicate w 32) (column w n)
-
-abbrev pub mark : ℕ → ℕ
-mark n = cond (eqb n 0) 32 (48 + n % 10)
-
--- the last column has the last digit
-pub column_last : (w n : ℕ) → n < 2 ^ 64 → column (suc w) n ≡ lead w (n / 10) ++ ((48 + n % 10) ∷ [])
-unfolding column
-column_last w n small =
-    ⊎_elim
-    (λ lt.
-    let q : n / 10 ≡ 0 = omega arith in
-    let r : n % 10 ≡ n = omega arith in
-    let k : suc w - 1 ≡ w = omega arith in
-    ap (λ ds. replicate (suc w - length ds) 32 ++ ds) (decimal_digit n lt) ∙ ap (λ m. replicate m 32 ++ ((48 + n) ∷ [])) k
-    ∙ sym (ap (λ m. lead w m ++ ((48 + n % 10) ∷ [])) q ∙ ap (λ m. replicate w 32 ++ ((48 + m) ∷ [])) r))
-    (λ ge.
-    let rest : List ℕ = decimal (n / 10) in
-    let k : suc w - length (rest ++ ((48 + n % 10) ∷ [])) ≡ w - length rest = omega (arith, length_push rest (48 + n % 10)) in
-    let some : n / 10 ≡ 0 → ⊥ = λ z. omega arith in
-    ap (λ ds. replicate (suc w - length ds) 32 ++ ds) (decimal_step n ge small) ∙ ap (λ m. replicate m 32 ++ (rest ++ ((48 + n % 10) ∷ []))) k
-    ∙ sym (append_assoc (replicate (w - length rest) 32) rest ((48 + n % 10) ∷ []))
-    ∙ ap (λ l. l ++ ((48 + n % 10) ∷ [])) (sym (cond-false (eqb (n / 10) 0) (replicate w 32) (column w (n / 10)) (ne_eqb (n / 10) 0 some))))
-    (cases_lt n 10)
-
-pub lead_last : (w n : ℕ) → n < 2 ^ 64 → lead (suc w) n ≡ lead w (n / 10) ++ (mark n ∷ [])
-lead_last w n small =
-    ⊎_elim
-    (λ none. subst (λ m. lead (suc w) m ≡ lead w (m / 10) ++ (mark m ∷ [])) (sym none) (ap (λ k. replicate k 32) (sym (add-one w)) ∙ sym (replicate_more w 32)))
-    (λ some.
-    let no = ne_eqb n 0 some in
-    cond-false (eqb n 0) (replicate (suc w) 32) (column (suc w) n) no ∙ column_last w n small
-    ∙ ap (λ x. lead w (n / 10) ++ (x ∷ [])) (sym (cond-false (eqb n 0) 32 (48 + n % 10) no)))
-    (cases_eq n 0)
-
--- one column more from the right
-pub lead-step : (out : List ℕ) (i n : ℕ) → i < length out → n < 2 ^ 64 → lead (i + 1) n ++ drop (i + 1) out ≡ lead i (n / 10) ++ drop i (set out i (mark n))
-lead-step out i n h small =
-    ap (λ k. lead k n ++ drop (i + 1) out) (add-one i) ∙ ap (λ l. l ++ drop (i + 1) out) (lead_last i n small)
-    ∙ append_assoc (lead i (n / 10)) (mark n ∷ []) (drop (i + 1) out)
-    ∙ ap (λ l. lead i (n / 10) ++ l) (sym (drop-set out i (mark n) h))
-
 pub value-front : (k : ℕ) (ds : List ℕ) → digits_value 10 (take k ds) ≤ digits_value 10 ds
 value-front k ds =
     let front = map value_of_digit (take k ds) in
@@ -77,6 +36,16 @@ value-front k ds =
     digits_value_is 10 ds ∙ ap (λ l. number_from_digits 10 (map value_of_digit l)) (sym (take-append-drop k ds))
     ∙ ap (number_from_digits 10) (map-append value_of_digit (take k ds) (drop k ds)) ∙ number_after_append 10 0 front back in
     omega (arith, digits_value_is 10 (take k ds), number_after_ge 10 (number_from_digits 10 front) back (omega arith))
+
+-- what stands before the first byte that is no blank
+pub blanks_first : (s : List ℕ) → s ≡ replicate (prefix_len (λ b. eqb b 32) s) 32 ++ drop (prefix_len (λ b. eqb b 32) s) s
+blanks_first s =
+    let k : ℕ = prefix_len (λ b. eqb b 32) s in
+    let long : length (take k s) ≡ k = length-prefix_len (λ b. eqb b 32) s in
+    sym (take-append-drop k s)
+    ∙ ap (λ l. l ++ drop k s)
+    (ext_get_or 0 (take k s) (replicate k 32) (long ∙ sym (length-replicate k 32)) (λ i lt.
+    get_or-take k s i 0 (omega (arith, long)) ∙ eqb-true _ 32 (prefix_len_passes (λ b. eqb b 32) s i 0 (omega (arith, long))) ∙ sym (get_or-replicate k i 32 0 (omega (arith, long)))))
 
 -- blanks and then digits are a column
 pub column-from : (s : List ℕ) (b n : ℕ) → b ≤ length s → s ≡ replicate b 32 ++ drop b s → drop b s ≡ decimal n → s ≡ column (length s) n
@@ -102,29 +71,6 @@ column-split s b n small front stops e =
     let blank : get_or s m 0 ≡ 32 = ap (λ l. get_or l m 0) front ∙ get_or_append_left (replicate b 32) (drop b s) 0 m (subst (λ k. m < k) (sym (length-replicate b 32)) gt) ∙ get_or-replicate b m 32 0 gt in
     absurd (omega arith)))
     (cases_order b m)
-
--- the turns of `write_column`: n goes over out, rest is still to be written in the first i columns
-module _ (out : List ℕ) (n : ℕ) where
-  pub column-begun : 0 < length out → n < 2 ^ 64 → column (length (set out (length out - 1) (48 + n % 10))) n ≡ lead (length out - 1) (n / 10) ++ drop (length out - 1) (set out (length out - 1) (48 + n % 10))
-  column-begun some small =
-      let w : ℕ = length out - 1 in
-      let x : ℕ = 48 + n % 10 in
-      let up : length out ≡ suc w = omega arith in
-      let end : drop (w + 1) out ≡ [] = drop_all (w + 1) out (omega arith) in
-      ap (λ k. column k n) (length-set out w x ∙ up) ∙ column_last w n small
-      ∙ ap (λ l. lead w (n / 10) ++ l) (sym (drop-set out w x (omega arith) ∙ ap (λ l. x ∷ l) end))
-
-  pub column-more : (i rest b : ℕ) → 0 < i → i < length out → rest < 2 ^ 64 → b ≡ mark rest → column (length out) n ≡ lead i rest ++ drop i out → column (length (set out (i - 1) b)) n ≡ lead (i - 1) (rest / 10) ++ drop (i - 1) (set out (i - 1) b)
-  column-more i rest b some within small is so =
-      let down : i ≡ i - 1 + 1 = omega arith in
-      ap (λ k. column k n) (length-set out (i - 1) b) ∙ so ∙ ap (λ k. lead k rest ++ drop k out) down ∙ lead-step out (i - 1) rest (omega arith) small
-      ∙ ap (λ x. lead (i - 1) (rest / 10) ++ drop (i - 1) (set out (i - 1) x)) (sym is)
-
-  pub column_done : (i rest : ℕ) → i ≡ 0 → length (decimal n) ≤ length out → column (length out) n ≡ lead i rest ++ drop i out → out ≡ column (length out) n
-  column_done i rest none room so =
-      let e : column (length out) n ≡ lead 0 rest ++ out = so ∙ ap (λ k. lead k rest ++ drop k out) none in
-      let front : length (lead 0 rest) ≡ 0 = omega (arith, ap length e, length-append (lead 0 rest) out, length-column (length out) n room) in
-      sym (e ∙ ap (λ l. l ++ out) (nil_from_length (lead 0 rest) front))
 
 digit_value : (x : ℕ) → 48 ≤ x → x < 58 → value_of_digit x ≡ x - 48
 digit_value x low high = grind (arith, nat_tests)

@@ -1,5 +1,4 @@
 pub mod Figures
-pub mod Fronts
 pub mod Widths
 pub mod Cuts
 pub mod Beginnings

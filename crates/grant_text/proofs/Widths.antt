@@ -1,5 +1,5 @@
 -- Which figures fit their columns, and how long lines are. Assumes nothing.
-use Rattle.std.proofs.Common.{◌≡◌, ℕ, ◌+◌, ◌-◌, ◌*◌, ◌%◌, ◌^◌, ◌<◌, ◌≤◌, List, [], ◌∷◌, ◌++◌, length, take, drop, replicate, decimal, sym, ap, ◌∙◌, arith, pow-add}
+use Rattle.std.proofs.Common.{◌≡◌, ℕ, ◌+◌, ◌-◌, ◌*◌, ◌%◌, ◌^◌, ◌<◌, ◌≤◌, List, [], ◌∷◌, ◌++◌, length, set, replicate, decimal, refl, ap, ◌∙◌, subst, arith, pow-add}
 use native.Mathlib.Nat.{pow-le-pow_right}
 use Rattle.std.proofs.lemmas.List.{length-append, length-replicate, length_push}
 use Rattle.std.proofs.lemmas.Fmt.{length-decimal-le, decimal_by_steps}
@@ -8,7 +8,6 @@ use Rattle.grant_text.specs.Columns.{column}
 use Rattle.grant_text.specs.Texts.{sizes, heading, row_line}
 use Rattle.grant_text.specs.Readings.{FitsLine}
 use Rattle.grant_text.proofs.Figures.{length-column}
-use Rattle.grant_text.proofs.Fronts.{length_part}
 
 pub column-room : (w n : ℕ) → length (column w n) ≡ w → length (decimal n) ≤ w
 unfolding column
@@ -26,14 +25,9 @@ decimal-below =
     let more : 10 ^ length (ds ++ ((48 + n % 10) ∷ [])) ≡ 10 ^ length ds * 10 = ap (λ (k : ℕ). 10 ^ k) (length_push ds (48 + n % 10)) ∙ pow-add 10 (length ds) 1 in
     omega (arith, more))
 
-column-below : (w n : ℕ) → n < 2 ^ 64 → length (column w n) ≡ w → n < 10 ^ w
-column-below w n small e = omega (arith, decimal-below n small, pow-le-pow_right {n = 10} (omega arith) (column-room w n e))
-
--- a number that a part holds as a column fits it
-pub part-below : (a w n : ℕ) (s : List ℕ) → n < 2 ^ 64 → a + w ≤ length s → take w (drop a s) ≡ column (length (take w (drop a s))) n → n < 10 ^ w
-part-below a w n s small h e =
-    let wide = length_part a w s h in
-    column-below w n small (ap length (sym (e ∙ ap (λ (k : ℕ). column k n) wide)) ∙ wide)
+-- and a number fits what its digits fit
+pub digits-fit : (w n : ℕ) → n < 2 ^ 64 → length (decimal n) ≤ w → n < 10 ^ w
+digits-fit w n small room = omega (arith, decimal-below n small, pow-le-pow_right {n = 10} (omega arith) room)
 
 -- what fits its column
 pub fits_3 : (n : ℕ) → n < 10 ^ 3 → length (decimal n) ≤ 3
@@ -62,3 +56,13 @@ length-row_line r fits =
 pub length-heading : (h k : ℕ) → h < 10 ^ 3 → k < 10 ^ 4 → length (heading h k) ≡ 12
 unfolding sizes
 length-heading h k low few = simp length-append (omega (arith, length-column 3 h (fits_3 h low), length-column 4 k (fits_4 k few)))
+
+-- a column over the whole of a part that is w wide
+pub wide : (w n : ℕ) (part out : List ℕ) → length part ≡ w → out ≡ column (length part) n → out ≡ column w n
+wide w n part out long is = subst (λ k. out ≡ column k n) long is
+
+-- the one byte of a part is written
+pub last_byte : (part : List ℕ) (b : ℕ) → length part ≡ 1 → set part 0 b ≡ b ∷ []
+last_byte [] b long = absurd (omega arith)
+last_byte (x ∷ []) b long = refl
+last_byte (x ∷ (y ∷ part)) b long = absurd (omega arith)

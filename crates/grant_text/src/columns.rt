@@ -1,29 +1,30 @@
 // Figures in fixed columns: decimal, at the right, blanks before.
-ghost use Rattle.std.specs.Prelude.{◌≡◌, ℕ, ◌+◌, ◌-◌, ◌*◌, ◌^◌, ◌<◌, ◌≤◌, ◌++◌, length, drop, replicate, decimal, MatchOption, ◌≢◌, slice_index};
+ghost use Rattle.std.specs.Prelude.{◌≡◌, ℕ, ◌+◌, ◌-◌, ◌*◌, ◌^◌, ◌<◌, ◌≤◌, List, ◌++◌, length, drop, replicate, decimal, MatchOption, ◌≢◌, slice_index};
 ghost use Rattle.grant_text.specs.Columns.{column};
+
+use itoa::write_digits;
 
 // Writes `n` over the whole of `out`.
 pub(crate) fn write_column(out: &mut [u8], n: u64)
     requires { length (decimal n) ≤ length out.old }
     ensures { out.new ≡ column (length out.old) n }
 {
-    let last = out.len() - 1;
-    out[last] = b'0' + (n % 10) as u8;
-    let mut rest = n / 10;
-    let mut i = last;
-    while i > 0 {
-        i -= 1;
-        out[i] = if rest == 0 {
-            b' '
-        } else {
-            b'0' + (rest % 10) as u8
-        };
-        rest /= 10;
-    }
+    let width = out.len();
+    let start = write_digits(n, out, width);
+    out[..start].fill(b' ');
+}
+
+// The number that the first `width` bytes of `s` hold as a column, and what stands after them.
+pub(crate) fn take_column(s: &[u8], width: usize) -> Option<(u64, &[u8])>
+    ensures { MatchOption result ((n : ℕ) (rest : List ℕ) → n < 2 ^ 64 → length (decimal n) ≤ width → s.now ≢ column width n ++ rest) (λ p. (length (decimal p.0) ≤ width) × (s.now ≡ column width p.0 ++ p.1.now)) }
+{
+    let (front, rest) = s.split_at_checked(width)?;
+    let n = read_column(front)?;
+    Some((n, rest))
 }
 
 // The number that the whole of `s` holds as a column, if it is one of 64 bits.
-pub(crate) fn read_column(s: &[u8]) -> Option<u64>
+fn read_column(s: &[u8]) -> Option<u64>
     ensures { MatchOption result ((n : ℕ) → n < 2 ^ 64 → s.now ≢ column (length s.now) n) (λ n. s.now ≡ column (length s.now) n) }
 {
     read_decimal(&s[blanks(s)..])
@@ -35,21 +36,14 @@ fn blanks(s: &[u8]) -> usize
     ensures blank { s.now ≡ replicate result 32 ++ drop result s.now }
     ensures stops { slice_index s.now result ≢ 32 }
 {
-    let mut n = 0;
-    while n < s.len() && s[n] == b' ' {
-        n += 1;
-    }
-    n
+    s.iter().take_while(|b| **b == b' ').count()
 }
 
 // The number whose digits are the whole of `s`, with no zero before them but a lone 0.
 fn read_decimal(s: &[u8]) -> Option<u64>
     ensures { MatchOption result ((n : ℕ) → n < 2 ^ 64 → s.now ≢ decimal n) (λ n. s.now ≡ decimal n) }
 {
-    if s.is_empty() {
-        return None;
-    }
-    if s[0] == b'0' && s.len() > 1 {
+    if let [] | [b'0', _, ..] = s {
         return None;
     }
     let mut n = 0;
@@ -63,8 +57,6 @@ fn read_decimal(s: &[u8]) -> Option<u64>
 fn push_digit(n: u64, b: u8) -> Option<u64>
     ensures { MatchOption result (48 ≤ b → b < 58 → 2 ^ 64 ≤ n * 10 + (b - 48)) (λ m. (48 ≤ b) × (b < 58) × (m ≡ n * 10 + (b - 48))) }
 {
-    match b {
-        b'0'..=b'9' => n.checked_mul(10)?.checked_add((b - b'0') as u64),
-        _ => None,
-    }
+    let digit = char::from(b).to_digit(10)?;
+    n.checked_mul(10)?.checked_add(u64::from(digit))
 }

@@ -4,23 +4,35 @@ ghost use Rattle.refusal.specs.declared.Refusal.TheVariants.{Heading};
 ghost use Rattle.grant_text.specs.Texts.{sizes, heading};
 ghost use Rattle.grant_text.specs.Readings.{Headed};
 
-use crate::columns::{read_column, write_column};
+use crate::columns::{take_column, write_column};
 use refusal::Refusal;
 
-// Height and number of rows, by a heading in form and in range.
-pub(crate) fn read_heading(text: &[u8]) -> Result<(u32, usize), Refusal>
-    ensures { MatchResult result (λ p. Headed text.now p.0 p.1) (λ e. (e ≡ Heading) × ((h k : ℕ) → Headed text.now h k → ⊥)) }
+// What a heading says: the height of the tree, and how many rows follow.
+#[derive(Clone, Copy)]
+pub(crate) struct Sizes {
+    pub(crate) height: u32,
+    pub(crate) count: usize,
+}
+
+// The sizes that a heading in form and in range says.
+pub(crate) fn read_heading(text: &[u8]) -> Result<Sizes, Refusal>
+    ensures { MatchResult result (λ s. Headed text.now s.height s.count) (λ e. (e ≡ Heading) × ((h k : ℕ) → Headed text.now h k → ⊥)) }
 {
-    let Some(rest) = after_letters(text) else {
-        return Err(Refusal::Heading);
-    };
-    let Some((height, count)) = read_sizes(rest) else {
-        return Err(Refusal::Heading);
-    };
-    if height < 1 || height > 32 || count < 1 || count > 128 {
-        return Err(Refusal::Heading);
+    sizes_in_form(text).ok_or(Refusal::Heading)
+}
+
+fn sizes_in_form(text: &[u8]) -> Option<Sizes>
+    ensures { MatchOption result ((h k : ℕ) → Headed text.now h k → ⊥) (λ s. Headed text.now s.height s.count) }
+{
+    let rest = after_letters(text)?;
+    let (height, count) = read_sizes(rest)?;
+    if !(1..=32).contains(&height) || !(1..=128).contains(&count) {
+        return None;
     }
-    Ok((height as u32, count as usize))
+    Some(Sizes {
+        height: height as u32,
+        count: count as usize,
+    })
 }
 
 // What stands after the letters.
@@ -37,22 +49,25 @@ fn after_letters(text: &[u8]) -> Option<&[u8]>
 fn read_sizes(rest: &[u8]) -> Option<(u64, u64)>
     ensures { MatchOption result ((h k : ℕ) → h < 2 ^ 64 → k < 2 ^ 64 → take 8 rest.now ≢ sizes h k) (λ p. take 8 rest.now ≡ sizes p.0 p.1) }
 {
-    if rest.len() < 8 || rest[7] != b'\n' {
-        return None;
+    let (height, rest) = take_column(rest, 3)?;
+    let (count, rest) = take_column(rest, 4)?;
+    match rest {
+        [b'\n', ..] => Some((height, count)),
+        _ => None,
     }
-    let height = read_column(&rest[0..3])?;
-    let count = read_column(&rest[3..7])?;
-    Some((height, count))
 }
 
-pub(crate) fn write_heading(out: &mut [u8], height: u32, count: usize)
+pub(crate) fn write_heading(out: &mut [u8], sizes: Sizes)
     requires long { length out.old ≡ 12 }
-    requires low { height < 10 ^ 3 }
-    requires few { count < 10 ^ 4 }
-    ensures { out.new ≡ heading height count }
+    requires low { sizes.height < 10 ^ 3 }
+    requires few { sizes.count < 10 ^ 4 }
+    ensures { out.new ≡ heading sizes.height sizes.count }
 {
-    out[0..4].copy_from_slice(b"PASS");
-    write_column(&mut out[4..7], height as u64);
-    write_column(&mut out[7..11], count as u64);
-    out[11] = b'\n';
+    let (letters, out) = out.split_at_mut(4);
+    let (height, out) = out.split_at_mut(3);
+    let (count, end) = out.split_at_mut(4);
+    letters.copy_from_slice(b"PASS");
+    write_column(height, u64::from(sizes.height));
+    write_column(count, sizes.count as u64);
+    end[0] = b'\n';
 }

@@ -4,22 +4,21 @@ ghost use Rattle.grant.specs.declared.grant.row.Row.{Row as ARow};
 ghost use Rattle.grant_text.specs.Texts.{row_line};
 ghost use Rattle.grant_text.specs.Readings.{FitsLine, Shows};
 
-use crate::columns::{read_column, write_column};
+use crate::columns::{take_column, write_column};
 use cipher::Block;
 use grant::Row;
 
 // The row of a line in form.
 fn read_line(s: &[u8]) -> Option<Row>
-    requires { length s.now ≡ 57 }
     ensures { MatchOption result ((x : ARow) → FitsLine x → s.now ≢ row_line x) (λ x. FitsLine x × (s.now ≡ row_line x)) }
 {
-    if s[56] != b'\n' {
+    let (level, s) = take_column(s, 3)?;
+    let (index, s) = take_column(s, 11)?;
+    let (high, s) = take_column(s, 21)?;
+    let (low, end) = take_column(s, 21)?;
+    if end != b"\n".as_slice() {
         return None;
     }
-    let level = read_column(&s[0..3])?;
-    let index = read_column(&s[3..14])?;
-    let high = read_column(&s[14..35])?;
-    let low = read_column(&s[35..56])?;
     Some(Row {
         level: level as u32,
         index,
@@ -32,7 +31,8 @@ pub(crate) fn row_at(text: &[u8], i: usize) -> Option<Row>
     requires { 69 + 57 * i ≤ length text.now }
     ensures { MatchOption result ((x : ARow) → Shows text.now i x → ⊥) (λ x. Shows text.now i x) }
 {
-    read_line(&text[12 + 57 * i..69 + 57 * i])
+    let (_, lines) = text.split_at(12 + 57 * i);
+    read_line(&lines[..57])
 }
 
 pub(crate) fn write_line(out: &mut [u8], row: Row)
@@ -42,9 +42,13 @@ pub(crate) fn write_line(out: &mut [u8], row: Row)
     ensures is { out.new ≡ row_line row }
     ensures fits { FitsLine row }
 {
-    write_column(&mut out[0..3], row.level as u64);
-    write_column(&mut out[3..14], row.index);
-    write_column(&mut out[14..35], row.seed.high);
-    write_column(&mut out[35..56], row.seed.low);
-    out[56] = b'\n';
+    let (level, out) = out.split_at_mut(3);
+    let (index, out) = out.split_at_mut(11);
+    let (high, out) = out.split_at_mut(21);
+    let (low, end) = out.split_at_mut(21);
+    write_column(level, u64::from(row.level));
+    write_column(index, row.index);
+    write_column(high, row.seed.high);
+    write_column(low, row.seed.low);
+    end[0] = b'\n';
 }

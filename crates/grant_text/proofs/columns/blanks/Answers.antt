@@ -1,25 +1,13 @@
-use Rattle.std.proofs.Common.{[], ◌∷◌, ◌++◌, drop, sym, ap, ◌∙◌, arith}
-use Rattle.std.proofs.lemmas.List.{take_more, take-append-drop, replicate_more, get_or_past}
+use Rattle.std.proofs.Common.{◌≡◌, ◌++◌, eqb, drop, replicate, sym, ◌∙◌, subst, rules, tests}
+use Rattle.std.proofs.lemmas.Iterator.{YieldsList-from_slice}
+use Rattle.std.proofs.lemmas.Iterator.Consumers.{count_from_yields_List}
+use Rattle.std.proofs.lemmas.Iterator.Search.{YieldsList-from_take_while}
+use Rattle.std.proofs.lemmas.List.Folds.{length-prefix_len}
+use Rattle.grant_text.proofs.Figures.{blanks_first}
 use Rattle.grant_text.proofs.columns.blanks.Goals as goal
 
-pub loop-n-preserved : goal.loop-n-preserved
-loop-n-preserved c = (
-  omega arith,
-  take_more c.args.s.now c.loop-n.n 0 c.loop-n-test.true
-      ∙ (λ i. c.loop-n.invariant.1 i ++ (c.if-s-n-eq32.true i ∷ []))
-      ∙ replicate_more c.loop-n.n 32,
-)
-
-pub returns-else-s-n-eq32 : goal.returns-else-s-n-eq32
-returns-else-s-n-eq32 c = record {
-  within = omega arith;
-  blank = sym (take-append-drop c.loop-n.n c.args.s.now) ∙ ap (λ l. l ++ drop c.loop-n.n c.args.s.now) c.loop-n.invariant.1;
-  stops = c.if-s-n-eq32.false;
-}
-
-pub returns-after-loop-n : goal.returns-after-loop-n
-returns-after-loop-n c = record {
-  within = c.loop-n.invariant.0;
-  blank = sym (take-append-drop c.loop-n.n c.args.s.now) ∙ ap (λ l. l ++ drop c.loop-n.n c.args.s.now) c.loop-n.invariant.1;
-  stops = λ e. omega (arith, get_or_past c.args.s.now c.loop-n.n 0 c.loop-n-test.false);
-}
+pub returns-clause-blank : goal.returns-clause-blank
+returns-clause-blank c =
+    let s = c.args.s.now in
+    let many = count_from_yields_List c.take_while.result _ c.count.ensures.ran (YieldsList-from_take_while _ (λ b. eqb b 32) (YieldsList-from_slice s cc) c.take_while.ensures.closure c.take_while.ensures.done (λ x b q k. search (rules, tests))) ∙ length-prefix_len (λ b. eqb b 32) s in
+    subst (λ k. s ≡ replicate k 32 ++ drop k s) (sym many) (blanks_first s)

@@ -1,13 +1,13 @@
-use Rattle.std.proofs.Common.{◌<◌, length, sym, ⊎_elim, arith, rules}
-use Rattle.std.proofs.lemmas.Bool.{eqb-true, eqb-false}
+use Rattle.std.proofs.Common.{◌≡◌, ◌<◌, length, get_or, arith, rules}
 use Rattle.grant_text.proofs.Figures.{read_more, read_stuck, read_done, not-empty, no_zero}
 use Rattle.grant_text.proofs.columns.read_decimal.Goals as goal
+use Rattle.grant_text.proofs.columns.read_decimal.Goals.{in_default, in_default-2}
 
-pub returns-then-is_empty : goal.returns-then-is_empty
-returns-then-is_empty c n small e = not-empty c.args.s.now n small e (eqb-true _ 0 (sym c.if-is_empty.ensures))
+pub returns-in-empty : goal.returns-in-empty
+returns-in-empty c n small e = not-empty c.args.s.now n small e (omega (arith, c.in-empty.len_below))
 
-pub returns-then-s-gt1 : goal.returns-then-s-gt1
-returns-then-s-gt1 c n small e = no_zero c.args.s.now n small e c.if-s-eq48.true c.if-s-gt1.true
+pub returns-in-empty-2 : goal.returns-in-empty-2
+returns-in-empty-2 c n small e = no_zero c.args.s.now n small e (search rules) (omega (arith, c.in-empty.len_at_least))
 
 pub returns-in_err-n : goal.returns-in_err-n
 returns-in_err-n c = rw c.from_residual.ensures (λ m small e. read_stuck c.args.s.now c.loop-b.b-index c.loop-b.n m (omega arith) c.loop-b.invariant.1 c.in_err-n.ensures small e)
@@ -18,9 +18,10 @@ loop-b-preserved c =
     let more = read_more c.args.s.now c.loop-b.b-index c.loop-b.n c.in_ok-n.n (omega arith) (inv.0, inv.1) c.in_ok-n.ensures in
     (more.0, more.1, search rules)
 
+lone : (c : goal.After-loop-b) → (0 < length c.args.s.now) × (get_or c.args.s.now 0 0 ≡ 48 → length c.args.s.now ≡ 1)
+lone c = elim c.if-s-lt2.branch [ in_default w ↦ (omega (arith, w.in_default.len_at_least), λ zero. omega (arith, w.in_default.len_at_least, w.in_default.len_below)) | in_default-2 w ↦ (omega (arith, w.in_default.len_at_least), λ zero. grind arith) ]
+
 pub returns : goal.returns
 returns c =
     let inv = c.loop-b.invariant in
-    let some : 0 < length c.args.s.now = omega (arith, eqb-false _ 0 (sym c.if-is_empty.ensures)) in
-    read_done c.args.s.now c.loop-b.b-index c.loop-b.n (omega arith) (inv.0, inv.1) inv.2 some
-    (λ zero. ⊎_elim (λ h. omega arith) (λ other. absurd (other zero)) c.else-s-eq48.either)
+    read_done c.args.s.now c.loop-b.b-index c.loop-b.n (omega arith) (inv.0, inv.1) inv.2 (lone c).0 (lone c).1

@@ -1,52 +1,73 @@
-use Rattle.std.proofs.Common.{◌^◌, ◌<◌, sym, ap, ◌∙◌, arith, rules}
+use Rattle.std.proofs.Common.{◌≡◌, ℕ, ◌^◌, ◌<◌, ◌≤◌, List, [], ◌∷◌, ◌++◌, length, decimal, refl, sym, ◌∙◌, arith, rules}
+use Rattle.grant.specs.declared.grant.row.Row.{Row}
 use Rattle.grant_text.specs.Columns.{column}
-use Rattle.grant_text.proofs.Cuts.{row_cut, row_join}
-use Rattle.grant_text.proofs.Widths.{part-below}
-use Rattle.grant_text.proofs.Fronts.{length_part}
+use Rattle.grant_text.specs.Texts.{row_line}
+use Rattle.grant_text.specs.Readings.{FitsLine}
+use Rattle.grant_text.proofs.Cuts.{column_once}
+use Rattle.grant_text.proofs.Widths.{digits-fit, fits_3, fits_11, fits_21}
 use Rattle.grant_text.proofs.line.read_line.Goals as goal
 
-pub returns-then-s-ne10 : goal.returns-then-s-ne10
-returns-then-s-ne10 c x words e = c.if-s-ne10.true (row_cut c.args.s.now x c.requires e).end
+-- What stands after the columns of a row's line that were taken.
+module _ (s : List ℕ) (x : Row) (fits : FitsLine x) (e : s ≡ row_line x) where
+  after_level : (p : ℕ) (a : List ℕ) → p < 2 ^ 64 → (length (decimal p) ≤ 3) × (s ≡ column 3 p ++ a) → a ≡ column 11 x.index ++ (column 21 x.seed.high ++ (column 21 x.seed.low ++ (10 ∷ [])))
+  unfolding row_line
+  after_level p a small got = (column_once 3 p x.level _ _ small (omega (arith, fits.0)) got.0 (fits_3 _ fits.0) (sym got.1 ∙ e)).1
+
+  after_index : (p : ℕ) (a b : List ℕ) → p < 2 ^ 64 → (length (decimal p) ≤ 11) × (a ≡ column 11 p ++ b) → a ≡ column 11 x.index ++ (column 21 x.seed.high ++ (column 21 x.seed.low ++ (10 ∷ []))) → b ≡ column 21 x.seed.high ++ (column 21 x.seed.low ++ (10 ∷ []))
+  after_index p a b small got is = (column_once 11 p x.index _ _ small (omega (arith, fits.1)) got.0 (fits_11 _ fits.1) (sym got.1 ∙ is)).1
+
+  after_high : (p : ℕ) (a b : List ℕ) → p < 2 ^ 64 → (length (decimal p) ≤ 21) × (a ≡ column 21 p ++ b) → a ≡ column 21 x.seed.high ++ (column 21 x.seed.low ++ (10 ∷ [])) → b ≡ column 21 x.seed.low ++ (10 ∷ [])
+  after_high p a b small got is = (column_once 21 p x.seed.high _ _ small fits.2 got.0 (fits_21 _ fits.2) (sym got.1 ∙ is)).1
 
 pub returns-in_err-level : goal.returns-in_err-level
+unfolding row_line
 returns-in_err-level c =
-    let s = c.args.s.now in
-    rw c.from_residual.ensures (λ x words e. c.in_err-level.ensures x.level (omega (arith, words.0)) ((row_cut s x c.requires e).level ∙ ap (λ w. column w x.level) (sym (length_part 0 3 s (omega arith)))))
+    rw c.from_residual.ensures (λ x fits e. c.in_err-level.ensures x.level _ (omega (arith, fits.0)) (fits_3 _ fits.0) e)
 
 pub returns-in_err-index : goal.returns-in_err-index
 returns-in_err-index c =
-    let s = c.args.s.now in
-    rw c.from_residual-in_err-index.ensures (λ x words e. c.in_err-index.ensures x.index (omega (arith, words.1)) ((row_cut s x c.requires e).index ∙ ap (λ w. column w x.index) (sym (length_part 3 11 s (omega arith)))))
+    rw c.from_residual-in_err-index.ensures (λ x fits e.
+    let f1 = after_level c.args.s.now x fits e c.in_ok-level.level _ (search rules) c.in_ok-level.ensures in
+    c.in_err-index.ensures x.index _ (omega (arith, fits.1)) (fits_11 _ fits.1) f1)
 
 pub returns-in_err-high : goal.returns-in_err-high
 returns-in_err-high c =
-    let s = c.args.s.now in
-    rw c.from_residual-in_err-high.ensures (λ x words e. c.in_err-high.ensures x.seed.high words.2 ((row_cut s x c.requires e).high ∙ ap (λ w. column w x.seed.high) (sym (length_part 14 21 s (omega arith)))))
+    rw c.from_residual-in_err-high.ensures (λ x fits e.
+    let f1 = after_level c.args.s.now x fits e c.in_ok-level.level _ (search rules) c.in_ok-level.ensures in
+    let f2 = after_index c.args.s.now x fits e c.in_ok-index.index _ _ (search rules) c.in_ok-index.ensures f1 in
+    c.in_err-high.ensures x.seed.high _ fits.2 (fits_21 _ fits.2) f2)
 
 pub returns-in_err-low : goal.returns-in_err-low
 returns-in_err-low c =
-    let s = c.args.s.now in
-    rw c.from_residual-in_err-low.ensures (λ x words e. c.in_err-low.ensures x.seed.low words.3 ((row_cut s x c.requires e).low ∙ ap (λ w. column w x.seed.low) (sym (length_part 35 21 s (omega arith)))))
+    rw c.from_residual-in_err-low.ensures (λ x fits e.
+    let f1 = after_level c.args.s.now x fits e c.in_ok-level.level _ (search rules) c.in_ok-level.ensures in
+    let f2 = after_index c.args.s.now x fits e c.in_ok-index.index _ _ (search rules) c.in_ok-index.ensures f1 in
+    let f3 = after_high c.args.s.now x fits e c.in_ok-high.high _ _ (search rules) c.in_ok-high.ensures f2 in
+    c.in_err-low.ensures x.seed.low _ fits.3 (fits_21 _ fits.3) f3)
 
 pub overflow_cast-result : goal.overflow_cast-result
 overflow_cast-result c =
-    let small : c.in_ok-level.level < 10 ^ 3 = part-below 0 3 c.in_ok-level.level c.args.s.now (search rules) (omega arith) c.in_ok-level.ensures in
+    let small = digits-fit 3 c.in_ok-level.level (search rules) c.in_ok-level.ensures.0 in
+    search rules
+
+pub returns-then-ne : goal.returns-then-ne
+unfolding row_line
+returns-then-ne c x fits e =
+    let f1 = after_level c.args.s.now x fits e c.in_ok-level.level _ (search rules) c.in_ok-level.ensures in
+    let f2 = after_index c.args.s.now x fits e c.in_ok-index.index _ _ (search rules) c.in_ok-index.ensures f1 in
+    let f3 = after_high c.args.s.now x fits e c.in_ok-high.high _ _ (search rules) c.in_ok-high.ensures f2 in
+    let low = c.in_ok-low.ensures in
+    let end : c.in_ok-low.end.now ≡ 10 ∷ [] = (column_once 21 c.in_ok-low.low x.seed.low _ _ (search rules) fits.3 low.0 (fits_21 _ fits.3) (sym low.1 ∙ f3)).1 in
     search rules
 
 pub returns : goal.returns
+unfolding row_line
 returns c =
-    let s = c.args.s.now in (
-      (
-        part-below 0 3 c.in_ok-level.level s (search rules) (omega arith) c.in_ok-level.ensures,
-        part-below 3 11 c.in_ok-index.index s (search rules) (omega arith) c.in_ok-index.ensures,
-        search rules,
-        search rules,
-      ),
-      row_join s _ c.requires (record {
-        level = c.in_ok-level.ensures ∙ ap (λ w. column w c.in_ok-level.level) (length_part 0 3 s (omega arith));
-        index = c.in_ok-index.ensures ∙ ap (λ w. column w c.in_ok-index.index) (length_part 3 11 s (omega arith));
-        high = c.in_ok-high.ensures ∙ ap (λ w. column w c.in_ok-high.high) (length_part 14 21 s (omega arith));
-        low = c.in_ok-low.ensures ∙ ap (λ w. column w c.in_ok-low.low) (length_part 35 21 s (omega arith));
-        end = c.if-s-ne10.false;
-      }),
+    let end : c.in_ok-low.end.now ≡ 10 ∷ [] = search rules in
+    let level = c.in_ok-level.ensures in
+    let index = c.in_ok-index.ensures in
+    let high = c.in_ok-high.ensures in
+    let low = c.in_ok-low.ensures in (
+      (digits-fit 3 _ (search rules) level.0, digits-fit 11 _ (search rules) index.0, search rules, search rules),
+      rw (level.1, index.1, high.1, low.1, end) refl,
     )
