@@ -59,11 +59,10 @@ impl fmt::Display for Count {
     ghost output = { λ c. Some (count_text c) };
 
     fn fmt<W: fmt::Write>(&self, f: &mut fmt::Formatter<W>) -> fmt::Result {
-        let value = self.value;
-        if value < 1 << 63 {
-            return write!(f, "{value}");
+        if self.value < 1 << 63 {
+            write!(f, "{}", self.value)
+        } else {
+            write!(f, "-{}", self.value.wrapping_neg())
         }
-        let below = value.wrapping_neg();
-        write!(f, "-{below}")
     }
 }

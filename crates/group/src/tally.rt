@@ -94,9 +94,10 @@ impl fmt::Display for Moments {
     ghost output = { λ m. Some (moments_text m) };
 
     fn fmt<W: fmt::Write>(&self, f: &mut fmt::Formatter<W>) -> fmt::Result {
-        let count = self.count;
-        let sum = self.sum;
-        let squares = self.squares;
-        write!(f, "{count} parcels, {sum} g, squares {squares}")
+        write!(
+            f,
+            "{} parcels, {} g, squares {}",
+            self.count, self.sum, self.squares
+        )
     }
 }

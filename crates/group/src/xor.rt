@@ -55,7 +55,6 @@ impl fmt::Display for Flags {
     ghost output = { λ f. Some (flags_text f) };
 
     fn fmt<W: fmt::Write>(&self, f: &mut fmt::Formatter<W>) -> fmt::Result {
-        let bits = self.bits;
-        write!(f, "{bits}")
+        write!(f, "{}", self.bits)
     }
 }
