@@ -114,9 +114,8 @@ pub fn parcels(rt: &HostRuntime) -> anyhow::Result<()> {
         let word = key_word(i);
         Moments::from_words([word, word ^ 7, word ^ 13])
     });
-    let lines = [1200, 850, 4000, 4000, 640, 2147483647, 75].try_map(|grams| Moments::parcel(
-        grams,
-    ))?;
+    let grams = [1200, 850, 4000, 4000, 640, 2147483647, 75];
+    let lines = grams.try_map(Moments::parcel)?;
     let zero = Moments::identity();
     both_stores(rt, &keys, &lines, &mut [zero; 7], &mut [zero; 14])
 }
