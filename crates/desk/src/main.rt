@@ -2,6 +2,7 @@
 #![tactic(auto)]
 
 mod granted;
+mod keys;
 mod refused;
 mod saying;
 mod week;

@@ -1,25 +1,23 @@
 // What is said of an answer.
-use figure_text::Printed;
+use group::Group;
 use refusal::Refusal;
+use sealing::open;
+use source::KeySource;
+use std::fmt::Display;
+use store::Store;
 
-// Says what an open of lines a up to b answered.
-pub fn say_opened<G: Printed>(
+// Opens lines a up to b with the reader's keys, and says what was answered.
+pub fn say_open<G: Group + Display, S: Store<G>, R: KeySource<G>>(
     rt: &HostRuntime,
     who: &str,
+    store: &S,
+    reader: &R,
     a: usize,
     b: usize,
-    answer: Result<G, Refusal>,
 ) -> anyhow::Result<()> {
-    match answer {
-        Ok(sum) => {
-            let text = sum.text(rt.alloc())?;
-            println!(rt; "{who} opens {a} up to {b}: {text}")?;
-        }
-        Err(e) => {
-            let number = e.number();
-            let words = e.words();
-            println!(rt; "{who} is refused {a} up to {b} ({number}): {words}")?;
-        }
+    match open(store, reader, a, b) {
+        Ok(sum) => println!(rt; "{who} opens {a} up to {b}: {sum}")?,
+        Err(e) => println!(rt; "{who} is refused {a} up to {b} ({}): {e}", e.number())?,
     }
     Ok(())
 }
@@ -32,11 +30,7 @@ pub fn say_answer<T: Drop>(
 ) -> anyhow::Result<()> {
     match answer {
         Ok(_) => println!(rt; "{what}: answered")?,
-        Err(e) => {
-            let number = e.number();
-            let words = e.words();
-            println!(rt; "{what}: refused ({number}), {words}")?;
-        }
+        Err(e) => println!(rt; "{what}: refused ({}), {e}", e.number())?,
     }
     Ok(())
 }

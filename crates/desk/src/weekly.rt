@@ -1,70 +1,42 @@
 // Two weeks of days, opened by the week: with a key a week, weeks can be opened and no single day.
-use crate::saying::{say_answer, say_opened};
-use group::Count;
+use crate::keys::key_word;
+use crate::saying::{say_answer, say_open};
+use group::{Count, Group};
 use layers::{Coarse, post};
-use sealing::{Running, open};
-use source::{KeyList, KeySource};
-use store::{FlatStore, Store};
+use sealing::Running;
+use source::KeyList;
+use std::array::from_fn;
+use store::FlatStore;
 
 pub fn weeks(rt: &HostRuntime) -> anyhow::Result<()> {
     println!(rt; "weeks")?;
-    let mut daily = [Count { value: 0 }; 15];
-    for i in 0..15u64 {
-        daily[i as usize] = Count {
-            value: i.wrapping_mul(11400714819323198485),
-        };
-    }
-    let weekly = [
-        Count { value: 71 },
-        Count { value: 5003 },
-        Count { value: 90 },
-    ];
+    let daily = from_fn(|i| Count { value: key_word(i) });
+    let weekly = [71, 5003, 90].map(|value| Count { value });
     play(rt, &daily, &weekly)
 }
 
-// Seals two weeks, each line being the number of its day.
-fn seal_days<S: Store<Count>, K: KeySource<Count>>(
-    rt: &HostRuntime,
-    epoch: &Running<K>,
-    store: &mut S,
-) -> anyhow::Result<()> {
-    for day in 1..15u64 {
-        if let Err(e) = epoch.append(store, Count { value: day }) {
-            rt.println(e.words())?;
-        }
-    }
-    Ok(())
-}
-
-// Posts an envelope for the first day of each week, and one too many.
-fn post_weeks<S: Store<Count>, F: KeySource<Count>, O: KeySource<Count>>(
-    rt: &HostRuntime,
-    envelopes: &mut S,
-    fine: &F,
-    other: &O,
-) -> anyhow::Result<()> {
-    for _ in 0..4 {
-        say_answer(rt, "an envelope", post(7, envelopes, fine, other))?;
-    }
-    Ok(())
-}
-
+// Each line is the number of its day. An envelope is posted for the first day of each week, and one too many.
 fn play(rt: &HostRuntime, daily: &[Count; 15], weekly: &[Count; 3]) -> anyhow::Result<()> {
-    let mut cells = [Count { value: 0 }; 14];
+    let mut cells = [Count::identity(); 14];
     let mut store = FlatStore::new(&mut cells);
     let epoch = Running::new(KeyList { keys: daily });
-    seal_days(rt, &epoch, &mut store)?;
+    for value in 1..15 {
+        epoch.append(&mut store, Count { value })?;
+    }
     let hiding = KeyList { keys: weekly };
-    let mut paper = [Count { value: 0 }; 3];
+    let mut paper = [Count::identity(); 3];
     let mut envelopes = FlatStore::new(&mut paper);
-    post_weeks(rt, &mut envelopes, epoch.keys(), &hiding)?;
+    for _ in 0..4 {
+        let posted = post(7, &mut envelopes, epoch.keys(), &hiding);
+        say_answer(rt, "an envelope", posted)?;
+    }
     let reader = Coarse {
         step: 7,
         envelopes: &envelopes,
         other: hiding,
     };
-    say_opened(rt, "the weekly reader", 0, 7, open(&store, &reader, 0, 7))?;
-    say_opened(rt, "the weekly reader", 7, 14, open(&store, &reader, 7, 14))?;
-    say_opened(rt, "the weekly reader", 0, 1, open(&store, &reader, 0, 1))?;
-    say_opened(rt, "the weekly reader", 6, 7, open(&store, &reader, 6, 7))
+    for (a, b) in [(0, 7), (7, 14), (0, 1), (6, 7)] {
+        say_open(rt, "the weekly reader", &store, &reader, a, b)?;
+    }
+    Ok(())
 }

@@ -19,6 +19,9 @@ pub trait Group: Copy {
     // How many words of 64 bits a key takes, from one to three.
     const KEY_WORDS: usize;
 
+    // The same, for clauses.
+    ghost KEY_WORDS: { ℕ };
+
     // What figures count as.
     ghost Value: { Type 0 };
 
@@ -29,12 +32,6 @@ pub trait Group: Copy {
     ghost width: { ℕ };
 
     ghost made: { List ℕ → Self };
-
-    // KEY_WORDS, with what a proof may know of it: a constant itself has no contract.
-    fn words_per_key() -> usize
-        ensures is { result ≡ width }
-        ensures some { 1 ≤ result }
-        ensures few { result ≤ 3 };
 
     // The figure of as many words as a key takes; the others are ignored.
     fn from_words(words: [u64; 3]) -> Self
@@ -53,4 +50,16 @@ pub trait Group: Copy {
     fn same(self, other: Self) -> bool
         ensures only { result ≡ true → kind.value self ≡ kind.value other }
         ensures whenever { kind.value self ≡ kind.value other → result ≡ true };
+
+    // A key takes that many words.
+    ghost key_takes: { (KEY_WORDS ≡ width) × (1 ≤ width) × (width ≤ 3) };
+
+    // KEY_WORDS, with what callers may know of it.
+    final fn words_per_key() -> usize
+        ensures is { result ≡ width }
+        ensures some { 1 ≤ result }
+        ensures few { result ≤ 3 }
+    {
+        Self::KEY_WORDS
+    }
 }

@@ -1,15 +1,18 @@
 // Counts with their sums and sums of squares.
-ghost use Rattle.std.specs.Prelude.{◌≡◌};
+ghost use Rattle.std.specs.Prelude.{◌≡◌, Some};
 ghost use Rattle.refusal.specs.Judged.{judged};
+ghost use Rattle.std.proofs.Common.{rules};
+ghost use Rattle.group.specs.Figures.{moments_text};
 ghost use Rattle.group.specs.Kinds.{Triple, moments, word_moments};
 ghost use Rattle.group.specs.Parcels.{parcel_rules, parcel_line};
 ghost use Rattle.group.specs.Residues.{Residue};
 
 use crate::Group;
 use refusal::Refusal;
+use std::fmt;
 
 // How many, their sum and the sum of their squares, each modulo 2^64.
-#[derive(Clone, Copy)]
+#[derive(Clone, Copy, Debug, PartialEq, Eq)]
 pub struct Moments {
     pub count: u64,
     pub sum: u64,
@@ -38,6 +41,8 @@ impl Moments {
 impl Group for Moments {
     const KEY_WORDS: usize = 3;
 
+    ghost KEY_WORDS = { 3 };
+
     ghost Value = { Triple Residue };
 
     ghost kind = { moments };
@@ -45,10 +50,6 @@ impl Group for Moments {
     ghost width = { 3 };
 
     ghost made = { word_moments };
-
-    fn words_per_key() -> usize {
-        Self::KEY_WORDS
-    }
 
     fn from_words(words: [u64; 3]) -> Moments {
         Moments {
@@ -83,7 +84,20 @@ impl Group for Moments {
     }
 
     fn same(self, other: Moments) -> bool {
-        // `&` has no branch, so the proof has one way.
-        (self.count == other.count) & (self.sum == other.sum) & (self.squares == other.squares)
+        self == other
+    }
+
+    ghost key_takes = { Prim.search rules };
+}
+
+impl fmt::Display for Moments {
+    ghost output = { λ m. Some (moments_text m) };
+
+    fn fmt<W: fmt::Write>(&self, f: &mut fmt::Formatter<W>) -> fmt::Result {
+        write!(
+            f,
+            "{} parcels, {} g, squares {}",
+            self.count, self.sum, self.squares
+        )
     }
 }

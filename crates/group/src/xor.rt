@@ -1,17 +1,22 @@
 // Bits, added by exclusive or.
-ghost use Rattle.std.specs.Prelude.{ℕ};
+ghost use Rattle.std.specs.Prelude.{ℕ, Some};
+ghost use Rattle.std.proofs.Common.{rules};
+ghost use Rattle.group.specs.Figures.{flags_text};
 ghost use Rattle.group.specs.Kinds.{flags, word_flags};
 
 use crate::Group;
+use std::fmt;
 
 // Sixty-four flags. Adding switches those that the other has set, so each figure is its own negation.
-#[derive(Clone, Copy)]
+#[derive(Clone, Copy, Debug, PartialEq, Eq)]
 pub struct Flags {
     pub bits: u64,
 }
 
 impl Group for Flags {
     const KEY_WORDS: usize = 1;
+
+    ghost KEY_WORDS = { 1 };
 
     ghost Value = { ℕ };
 
@@ -20,10 +25,6 @@ impl Group for Flags {
     ghost width = { 1 };
 
     ghost made = { word_flags };
-
-    fn words_per_key() -> usize {
-        Self::KEY_WORDS
-    }
 
     fn from_words(words: [u64; 3]) -> Flags {
         Flags { bits: words[0] }
@@ -44,6 +45,16 @@ impl Group for Flags {
     }
 
     fn same(self, other: Flags) -> bool {
-        self.bits == other.bits
+        self == other
+    }
+
+    ghost key_takes = { Prim.search rules };
+}
+
+impl fmt::Display for Flags {
+    ghost output = { λ f. Some (flags_text f) };
+
+    fn fmt<W: fmt::Write>(&self, f: &mut fmt::Formatter<W>) -> fmt::Result {
+        write!(f, "{}", self.bits)
     }
 }

@@ -1,11 +1,11 @@
 -- What an answer says of the rules that it was judged by. Assumes nothing.
-use Rattle.std.proofs.Common.{◌≡◌, ℕ, true, false, cond, ◌↔◌, [], ◌∷◌, ◌++◌, is_ok, Some, None, Ok, Err, Result, sym, refl, ◌∙◌, arith}
+use Rattle.std.proofs.Common.{◌≡◌, true, false, cond, ◌↔◌, [], ◌∷◌, ◌++◌, is_ok, Some, None, Ok, Err, Result, sym, refl, ◌∙◌}
 use Rattle.std.proofs.lemmas.Bool.{cond-false, false≢true}
 use Rattle.refusal.specs.Judged.{Rules, judged, first, refusal}
 use Rattle.refusal.specs.declared.Refusal.{Refusal}
 
 pub some-none : {A : Type 0} {x : A} → Some x ≡ None → ⊥
-some-none e = let z : ◌≡◌ {A = ℕ} 0 1 = cc in omega arith
+some-none e = cc
 
 module _ {R : Type 0} where
   pub refusal-judged : (rules : Rules) (x : R) → refusal (judged rules x) ≡ first rules

@@ -1,42 +1,45 @@
 // Why calls refuse: one enum for the whole library, with a number and a sentence for each case.
 #![tactic(auto)]
 
-ghost use Rattle.std.specs.Prelude.{◌≡◌};
+ghost use Rattle.std.specs.Prelude.{◌≡◌, Some};
 ghost use Rattle.refusal.specs.Numbers.{code};
 ghost use Rattle.refusal.specs.Words.{sentence};
 ghost use Rattle.refusal.specs.declared.Refusal.{Refusal};
 
-#[derive(Clone, Copy, Debug)]
+use std::error::Error;
+use std::fmt;
+
+#[derive(Clone, Copy, Debug, PartialEq, Eq, Hash)]
 pub enum Refusal {
     // From the input.
-    Reversed,
-    EmptySpan,
-    SpanPastEnd,
-    SpanNotAbove,
-    NoSpans,
-    TooManySpans,
-    TooManyRows,
-    Height,
-    FanOut,
-    Capacity,
-    TooFewCells,
-    Heading,
-    TextLength,
-    RowForm,
-    RowPlace,
-    RowOrder,
-    RowHalves,
-    ShortOutput,
-    ShortScratch,
-    Step,
-    Weight,
+    Reversed = 1,
+    EmptySpan = 2,
+    SpanPastEnd = 3,
+    SpanNotAbove = 4,
+    NoSpans = 5,
+    TooManySpans = 6,
+    TooManyRows = 7,
+    Height = 8,
+    FanOut = 9,
+    Capacity = 10,
+    TooFewCells = 11,
+    Heading = 12,
+    TextLength = 13,
+    RowForm = 14,
+    RowPlace = 15,
+    RowOrder = 16,
+    RowHalves = 17,
+    ShortOutput = 18,
+    ShortScratch = 19,
+    Step = 20,
+    Weight = 21,
     // From the state.
-    Full,
-    Beyond,
-    NoKeyBefore,
-    NoKeyAfter,
-    NothingLeft,
-    KeyInNeither,
+    Full = 31,
+    Beyond = 32,
+    NoKeyBefore = 33,
+    NoKeyAfter = 34,
+    NothingLeft = 35,
+    KeyInNeither = 36,
 }
 
 impl Refusal {
@@ -45,35 +48,7 @@ impl Refusal {
         ensures is { result ≡ code self }
         ensures tells { (other : Refusal) → code other ≡ result → other ≡ self }
     {
-        match self {
-            Refusal::Reversed => 1,
-            Refusal::EmptySpan => 2,
-            Refusal::SpanPastEnd => 3,
-            Refusal::SpanNotAbove => 4,
-            Refusal::NoSpans => 5,
-            Refusal::TooManySpans => 6,
-            Refusal::TooManyRows => 7,
-            Refusal::Height => 8,
-            Refusal::FanOut => 9,
-            Refusal::Capacity => 10,
-            Refusal::TooFewCells => 11,
-            Refusal::Heading => 12,
-            Refusal::TextLength => 13,
-            Refusal::RowForm => 14,
-            Refusal::RowPlace => 15,
-            Refusal::RowOrder => 16,
-            Refusal::RowHalves => 17,
-            Refusal::ShortOutput => 18,
-            Refusal::ShortScratch => 19,
-            Refusal::Step => 20,
-            Refusal::Weight => 21,
-            Refusal::Full => 31,
-            Refusal::Beyond => 32,
-            Refusal::NoKeyBefore => 33,
-            Refusal::NoKeyAfter => 34,
-            Refusal::NothingLeft => 35,
-            Refusal::KeyInNeither => 36,
-        }
+        self as u32
     }
 
     // What went wrong and what to do, for whoever reads the answer.
@@ -135,3 +110,13 @@ impl Refusal {
         }
     }
 }
+
+impl fmt::Display for Refusal {
+    ghost output = { λ e. Some (sentence e) };
+
+    fn fmt<W: fmt::Write>(&self, f: &mut fmt::Formatter<W>) -> fmt::Result {
+        f.write_str(self.words())
+    }
+}
+
+impl Error for Refusal {}

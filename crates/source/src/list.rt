@@ -14,11 +14,6 @@ impl<'a, G: Group> KeySource<G> for KeyList<'a, G> {
     ghost keys = { λ s. nth s.keys.now };
 
     fn key(&self, number: u64) -> Option<G> {
-        let i = number as usize;
-        if i < self.keys.len() {
-            Some(self.keys[i])
-        } else {
-            None
-        }
+        self.keys.get(number as usize).copied()
     }
 }

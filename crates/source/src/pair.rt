@@ -18,11 +18,11 @@ impl<G: Group> KeySource<G> for KeyPair<G> {
 
     fn key(&self, number: u64) -> Option<G> {
         if number == self.from {
-            return Some(self.before);
+            Some(self.before)
+        } else if number == self.to {
+            Some(self.after)
+        } else {
+            None
         }
-        if number == self.to {
-            return Some(self.after);
-        }
-        None
     }
 }

@@ -1,9 +1,7 @@
-use Rattle.std.proofs.Common.{ap, arith, eq-eqb, eqb-true}
-use Rattle.group.specs.Residues.{residue}
+use Rattle.std.proofs.Common.{◌≡◌, ap, arith, rules}
 use Rattle.group.proofs.modular.CountGroup.same.Goals as goal
 
-pub returns : goal.returns
-returns c = record {
-  only = λ e. ap residue (eqb-true _ _ e);
-  whenever = λ e. eq-eqb _ _ (omega (arith, ap (λ r. r.0) e));
-}
+pub returns-clause-whenever : goal.returns-clause-whenever
+returns-clause-whenever c = λ e.
+    let value : c.args.self.value ≡ c.args.other.value = omega (arith, ap (λ r. r.0) e) in
+    search rules
