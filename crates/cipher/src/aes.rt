@@ -1,11 +1,12 @@
 // AES-128 on columns held as words of 32 bits, row 0 in the high byte. Round keys are made on the way, since a key is
 // mostly used for one block or two.
-ghost use Rattle.std.specs.Prelude.{◌≡◌, ◌+◌, ◌<◌, slice_index};
-ghost use Rattle.cipher.specs.Aes.{aes, block_of_state, ciphered, column, constants, diagonal, mix_column, mix_columns, rot_sub, round_key, rounds, shift_rows, state_of_block, sub_bytes, sub_column, xor_state};
+ghost use Rattle.std.specs.Prelude.{◌≡◌, ◌+◌, ◌<◌};
+ghost use Rattle.cipher.specs.Aes.{aes, block_of_state, ciphered, column, diagonal, mix_column, mix_columns, rot_sub, round_key, rounds, shift_rows, state_of_block, sub_bytes, sub_column, xor_state};
 ghost use Rattle.cipher.specs.AesWords.{next_key, state_of_words};
 
 use crate::Block;
 use crate::tables::{spread, sub};
+use std::ops::BitXor;
 
 // Four columns: the state, or a round key.
 #[derive(Clone, Copy)]
@@ -25,90 +26,114 @@ struct Running {
 
 const CONSTANTS: [u8; 10] = [0x01, 0x02, 0x04, 0x08, 0x10, 0x20, 0x40, 0x80, 0x1b, 0x36];
 
-// The constant that round key r + 1 is made with.
-fn constant(r: usize) -> u8
-    requires { r < 10 }
-    ensures { result ≡ slice_index constants r }
-{
-    CONSTANTS[r]
-}
+impl From<Block> for Words {
+    ghost from_gives = { λ b s. state_of_words s ≡ state_of_block b };
 
-fn columns(b: Block) -> Words
-    ensures { state_of_words result ≡ state_of_block b }
-{
-    Words {
-        c0: (b.high / 0x1_0000_0000) as u32,
-        c1: (b.high % 0x1_0000_0000) as u32,
-        c2: (b.low / 0x1_0000_0000) as u32,
-        c3: (b.low % 0x1_0000_0000) as u32,
+    fn from(b: Block) -> Words {
+        Words {
+            c0: (b.high / 0x1_0000_0000) as u32,
+            c1: (b.high % 0x1_0000_0000) as u32,
+            c2: (b.low / 0x1_0000_0000) as u32,
+            c3: (b.low % 0x1_0000_0000) as u32,
+        }
     }
 }
 
-fn joined(s: Words) -> Block
-    ensures { result ≡ block_of_state (state_of_words s) }
-{
-    Block {
-        high: s.c0 as u64 * 0x1_0000_0000 + s.c1 as u64,
-        low: s.c2 as u64 * 0x1_0000_0000 + s.c3 as u64,
+impl From<Words> for Block {
+    ghost from_gives = { λ s b. b ≡ block_of_state (state_of_words s) };
+
+    fn from(s: Words) -> Block {
+        Block {
+            high: s.c0 as u64 * 0x1_0000_0000 + s.c1 as u64,
+            low: s.c2 as u64 * 0x1_0000_0000 + s.c3 as u64,
+        }
     }
 }
 
-fn xor(a: Words, b: Words) -> Words
-    ensures { state_of_words result ≡ xor_state (state_of_words a) (state_of_words b) }
-{
-    Words {
-        c0: a.c0 ^ b.c0,
-        c1: a.c1 ^ b.c1,
-        c2: a.c2 ^ b.c2,
-        c3: a.c3 ^ b.c3,
+impl BitXor for Words {
+    type Output = Words;
+
+    ghost bitxor_gives = { λ a b s. state_of_words s ≡ xor_state (state_of_words a) (state_of_words b) };
+
+    fn bitxor(self, rhs: Words) -> Words {
+        Words {
+            c0: self.c0 ^ rhs.c0,
+            c1: self.c1 ^ rhs.c1,
+            c2: self.c2 ^ rhs.c2,
+            c3: self.c3 ^ rhs.c3,
+        }
     }
 }
 
-// One column of a round, from the four columns that hold its bytes. The spread table gives the part of each byte as if it
-// stood in row 0; a byte of row r has its part r rows lower, so the word is rotated right by r bytes.
-fn mixed_column(a: u32, b: u32, c: u32, d: u32) -> u32
-    ensures { column result ≡ mix_column (diagonal (sub_column (column a)) (sub_column (column b)) (sub_column (column c)) (sub_column (column d))) }
+impl Words {
+    // Row r moved left by r columns.
+    fn shifted(self) -> Words
+        ensures { state_of_words result ≡ shift_rows (state_of_words self) }
+    {
+        Words {
+            c0: diagonal(self.c0, self.c1, self.c2, self.c3),
+            c1: diagonal(self.c1, self.c2, self.c3, self.c0),
+            c2: diagonal(self.c2, self.c3, self.c0, self.c1),
+            c3: diagonal(self.c3, self.c0, self.c1, self.c2),
+        }
+    }
+
+    fn each_column<F: Fn(u32) -> u32>(self, f: F) -> Words
+        requires { F.IsAlwaysCallable f }
+        ensures c0 { F.post f self.c0 result.c0 }
+        ensures c1 { F.post f self.c1 result.c1 }
+        ensures c2 { F.post f self.c2 result.c2 }
+        ensures c3 { F.post f self.c3 result.c3 }
+    {
+        Words {
+            c0: f(self.c0),
+            c1: f(self.c1),
+            c2: f(self.c2),
+            c3: f(self.c3),
+        }
+    }
+}
+
+// One column of the state with its rows moved, from the four columns that hold its bytes.
+fn diagonal(a: u32, b: u32, c: u32, d: u32) -> u32
+    ensures { column result ≡ diagonal (column a) (column b) (column c) (column d) }
 {
     let [a, _, _, _] = a.to_be_bytes();
     let [_, b, _, _] = b.to_be_bytes();
     let [_, _, c, _] = c.to_be_bytes();
     let [_, _, _, d] = d.to_be_bytes();
+    u32::from_be_bytes([a, b, c, d])
+}
+
+// A column, substituted and mixed. The spread table gives the part of each byte as if it stood in row 0; a byte of row r has
+// its part r rows lower, so the word is rotated right by r bytes.
+fn mixed_column(u: u32) -> u32
+    ensures { column result ≡ mix_column (sub_column (column u)) }
+{
+    let [a, b, c, d] = u.to_be_bytes();
     let front = spread(a) ^ spread(b).rotate_right(8);
     let back = spread(c) ^ spread(d).rotate_right(8);
     front ^ back.rotate_right(16)
 }
 
-// The same in the last round, which does not mix.
-fn last_column(a: u32, b: u32, c: u32, d: u32) -> u32
-    ensures { column result ≡ diagonal (sub_column (column a)) (sub_column (column b)) (sub_column (column c)) (sub_column (column d)) }
+// A column, substituted only: the last round does not mix.
+fn last_column(u: u32) -> u32
+    ensures { column result ≡ sub_column (column u) }
 {
-    let [a, _, _, _] = a.to_be_bytes();
-    let [_, b, _, _] = b.to_be_bytes();
-    let [_, _, c, _] = c.to_be_bytes();
-    let [_, _, _, d] = d.to_be_bytes();
+    let [a, b, c, d] = u.to_be_bytes();
     u32::from_be_bytes([sub(a), sub(b), sub(c), sub(d)])
 }
 
 fn mixed_round(s: Words) -> Words
     ensures { state_of_words result ≡ mix_columns (shift_rows (sub_bytes (state_of_words s))) }
 {
-    Words {
-        c0: mixed_column(s.c0, s.c1, s.c2, s.c3),
-        c1: mixed_column(s.c1, s.c2, s.c3, s.c0),
-        c2: mixed_column(s.c2, s.c3, s.c0, s.c1),
-        c3: mixed_column(s.c3, s.c0, s.c1, s.c2),
-    }
+    s.shifted().each_column(mixed_column)
 }
 
 fn last_round(s: Words) -> Words
     ensures { state_of_words result ≡ shift_rows (sub_bytes (state_of_words s)) }
 {
-    Words {
-        c0: last_column(s.c0, s.c1, s.c2, s.c3),
-        c1: last_column(s.c1, s.c2, s.c3, s.c0),
-        c2: last_column(s.c2, s.c3, s.c0, s.c1),
-        c3: last_column(s.c3, s.c0, s.c1, s.c2),
-    }
+    s.shifted().each_column(last_column)
 }
 
 // The last word of a round key, its bytes rotated one place left and put through the S-box, the first xored with the constant.
@@ -136,14 +161,14 @@ fn first_rounds(key: Words, block: Words, count: usize) -> Running
     ensures key { state_of_words result.key ≡ round_key (state_of_words key) (count + 1) }
 {
     let mut current = key;
-    let mut state = xor(block, key);
-    for r in 0..count {
-        current = next_key(current, constant(r));
-        state = xor(mixed_round(state), current);
+    let mut state = block ^ key;
+    for constant in &CONSTANTS[..count] {
+        current = next_key(current, *constant);
+        state = mixed_round(state) ^ current;
     }
     Running {
         state,
-        key: next_key(current, constant(count)),
+        key: next_key(current, CONSTANTS[count]),
     }
 }
 
@@ -151,11 +176,11 @@ fn all_rounds(key: Words, block: Words) -> Words
     ensures { state_of_words result ≡ ciphered (round_key (state_of_words key)) (state_of_words block) }
 {
     let last = first_rounds(key, block, 9);
-    xor(last_round(last.state), last.key)
+    last_round(last.state) ^ last.key
 }
 
 pub fn encrypt(key: Block, block: Block) -> Block
     ensures { result ≡ aes key block }
 {
-    joined(all_rounds(columns(key), columns(block)))
+    all_rounds(key.into(), block.into()).into()
 }

@@ -1,7 +1,7 @@
 use Rattle.std.proofs.Common.{◌+◌, ◌*◌, sym, arith}
 use Rattle.cipher.specs.Aes.{block_of_state}
 use Rattle.cipher.proofs.Bridge.{word-column}
-use Rattle.cipher.proofs.aes.joined.Goals as goal
+use Rattle.cipher.proofs.aes.BlockFromWords.from.Goals as goal
 
 pub returns : goal.returns
 unfolding block_of_state
