@@ -2,7 +2,7 @@
 // mostly used for one block or two.
 ghost use Rattle.std.specs.Prelude.{◌≡◌, ◌+◌, ◌<◌};
 ghost use Rattle.cipher.specs.Aes.{aes, block_of_state, ciphered, column, diagonal, mix_column, mix_columns, rot_sub, round_key, rounds, shift_rows, state_of_block, sub_bytes, sub_column, xor_state};
-ghost use Rattle.cipher.specs.AesWords.{next_key, state_of_words};
+ghost use Rattle.cipher.specs.AesWords.{column_of, next_key, state_of_words};
 
 use crate::Block;
 use crate::tables::{spread, sub};
@@ -66,74 +66,64 @@ impl BitXor for Words {
 }
 
 impl Words {
-    // Row r moved left by r columns.
-    fn shifted(self) -> Words
-        ensures { state_of_words result ≡ shift_rows (state_of_words self) }
-    {
-        Words {
-            c0: diagonal(self.c0, self.c1, self.c2, self.c3),
-            c1: diagonal(self.c1, self.c2, self.c3, self.c0),
-            c2: diagonal(self.c2, self.c3, self.c0, self.c1),
-            c3: diagonal(self.c3, self.c0, self.c1, self.c2),
-        }
-    }
-
-    fn each_column<F: Fn(u32) -> u32>(self, f: F) -> Words
+    // The columns of a round, each `f` of the four columns that hold its bytes.
+    fn each_column<F: Fn(u32, u32, u32, u32) -> u32>(self, f: F) -> Words
         requires { F.IsAlwaysCallable f }
-        ensures c0 { F.post f self.c0 result.c0 }
-        ensures c1 { F.post f self.c1 result.c1 }
-        ensures c2 { F.post f self.c2 result.c2 }
-        ensures c3 { F.post f self.c3 result.c3 }
+        ensures c0 { F.post f self.c0 self.c1 self.c2 self.c3 result.c0 }
+        ensures c1 { F.post f self.c1 self.c2 self.c3 self.c0 result.c1 }
+        ensures c2 { F.post f self.c2 self.c3 self.c0 self.c1 result.c2 }
+        ensures c3 { F.post f self.c3 self.c0 self.c1 self.c2 result.c3 }
     {
+        let Words { c0, c1, c2, c3 } = self;
         Words {
-            c0: f(self.c0),
-            c1: f(self.c1),
-            c2: f(self.c2),
-            c3: f(self.c3),
+            c0: f(c0, c1, c2, c3),
+            c1: f(c1, c2, c3, c0),
+            c2: f(c2, c3, c0, c1),
+            c3: f(c3, c0, c1, c2),
         }
     }
 }
 
-// One column of the state with its rows moved, from the four columns that hold its bytes.
-fn diagonal(a: u32, b: u32, c: u32, d: u32) -> u32
-    ensures { column result ≡ diagonal (column a) (column b) (column c) (column d) }
+// The bytes of one column after the rows have moved, from the four columns that hold them.
+fn diagonal(a: u32, b: u32, c: u32, d: u32) -> [u8; 4]
+    ensures { column_of result ≡ diagonal (column a) (column b) (column c) (column d) }
 {
     let [a, _, _, _] = a.to_be_bytes();
     let [_, b, _, _] = b.to_be_bytes();
     let [_, _, c, _] = c.to_be_bytes();
     let [_, _, _, d] = d.to_be_bytes();
-    u32::from_be_bytes([a, b, c, d])
+    [a, b, c, d]
 }
 
-// A column, substituted and mixed. The spread table gives the part of each byte as if it stood in row 0; a byte of row r has
-// its part r rows lower, so the word is rotated right by r bytes.
-fn mixed_column(u: u32) -> u32
-    ensures { column result ≡ mix_column (sub_column (column u)) }
+// One column of a round, from the four columns that hold its bytes. The spread table gives the part of each byte as if it
+// stood in row 0; a byte of row r has its part r rows lower, so the word is rotated right by r bytes.
+fn mixed_column(a: u32, b: u32, c: u32, d: u32) -> u32
+    ensures { column result ≡ mix_column (diagonal (sub_column (column a)) (sub_column (column b)) (sub_column (column c)) (sub_column (column d))) }
 {
-    let [a, b, c, d] = u.to_be_bytes();
+    let [a, b, c, d] = diagonal(a, b, c, d);
     let front = spread(a) ^ spread(b).rotate_right(8);
     let back = spread(c) ^ spread(d).rotate_right(8);
     front ^ back.rotate_right(16)
 }
 
-// A column, substituted only: the last round does not mix.
-fn last_column(u: u32) -> u32
-    ensures { column result ≡ sub_column (column u) }
+// The same in the last round, which does not mix.
+fn last_column(a: u32, b: u32, c: u32, d: u32) -> u32
+    ensures { column result ≡ diagonal (sub_column (column a)) (sub_column (column b)) (sub_column (column c)) (sub_column (column d)) }
 {
-    let [a, b, c, d] = u.to_be_bytes();
+    let [a, b, c, d] = diagonal(a, b, c, d);
     u32::from_be_bytes([sub(a), sub(b), sub(c), sub(d)])
 }
 
 fn mixed_round(s: Words) -> Words
     ensures { state_of_words result ≡ mix_columns (shift_rows (sub_bytes (state_of_words s))) }
 {
-    s.shifted().each_column(mixed_column)
+    s.each_column(mixed_column)
 }
 
 fn last_round(s: Words) -> Words
     ensures { state_of_words result ≡ shift_rows (sub_bytes (state_of_words s)) }
 {
-    s.shifted().each_column(last_column)
+    s.each_column(last_column)
 }
 
 // The last word of a round key, its bytes rotated one place left and put through the S-box, the first xored with the constant.

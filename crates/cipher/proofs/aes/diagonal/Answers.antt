@@ -1,6 +1,6 @@
-use Rattle.std.proofs.Common.{List, get_or, ap, ◌∙◌, arith}
+use Rattle.std.proofs.Common.{get_or, ap}
 use Rattle.cipher.specs.Aes.{column, diagonal}
-use Rattle.cipher.proofs.Bridge.{bytes, column-bytes}
+use Rattle.cipher.proofs.Bridge.{bytes}
 use Rattle.cipher.proofs.aes.diagonal.Goals as goal
 
 pub returns : goal.returns
@@ -10,5 +10,4 @@ returns c =
     let q = ap (λ l. get_or l 1 0) c.to_be_bytes-2.ensures in
     let r = ap (λ l. get_or l 2 0) c.to_be_bytes-3.ensures in
     let s = ap (λ l. get_or l 3 0) c.to_be_bytes-4.ensures in
-    ap column c.from_be_bytes.ensures ∙ column-bytes _ _ _ _ (omega arith) (omega arith) (omega arith) (omega arith)
-    ∙ (λ i. bytes (p i) (q i) (r i) (s i))
+    λ i. bytes (p i) (q i) (r i) (s i)
