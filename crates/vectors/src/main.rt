@@ -15,12 +15,7 @@ fn run<C: Cipher>(rt: &HostRuntime, path: &str) -> anyhow::Result<Tally> {
 }
 
 fn report(rt: &HostRuntime, name: &str, tally: Tally) -> anyhow::Result<()> {
-    let Tally {
-        agree,
-        differ,
-        malformed,
-    } = tally;
-    println!(rt; "{name}: {agree} agree, {differ} differ, {malformed} not in form")?;
+    println!(rt; "{name}: {tally}")?;
     Ok(())
 }
 

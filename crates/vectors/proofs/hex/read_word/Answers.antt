@@ -1,4 +1,4 @@
-use Rattle.std.proofs.Common.{suc, ◌<◌, length, drop, Some, sym, ap, ◌∙◌, add-one, arith, drop_of_length-le, drop-cons}
+use Rattle.std.proofs.Common.{suc, ◌<◌, length, drop, Some, sym, ap, ◌∙◌, add-one, arith, rules, drop_of_length-le, drop-cons}
 use Rattle.vectors.specs.Hex.{next, number_from}
 use Rattle.vectors.proofs.hex.read_word.Goals as goal
 
@@ -8,20 +8,21 @@ loop-b-preserved c =
     let i = c.loop-b.b-index in
     let n = c.loop-b.n in
     let h : i < length xs = omega arith in
-    let read = sym c.digit.ensures ∙ c.in-Some.is ∙ ap Some (sym c.from.ensures) in
+    let read = sym c.digit.ensures ∙ c.in_ok-d.was ∙ ap Some (sym c.from.ensures) in
     rw add-one (
     c.loop-b.invariant ∙ ap (number_from (Some n)) (drop-cons xs i 0 h)
     ∙ ap (λ o. number_from (next n o) (drop (suc i) xs)) read
     )
 
-pub returns-in_default : goal.returns-in_default
-returns-in_default c =
+pub returns-in_err-d : goal.returns-in_err-d
+returns-in_err-d c =
     let xs = c.args.text.now in
     let i = c.loop-b.b-index in
     let n = c.loop-b.n in
     let h : i < length xs = omega arith in
-    let read = sym c.digit.ensures ∙ c.in_default.is in
-    sym (
+    let read = sym c.digit.ensures ∙ c.in_err-d.was in
+    c.from_residual.ensures
+    ∙ sym (
     c.loop-b.invariant ∙ ap (number_from (Some n)) (drop-cons xs i 0 h)
     ∙ ap (λ o. number_from (next n o) (drop (suc i) xs)) read
     )
