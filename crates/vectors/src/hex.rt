@@ -27,6 +27,7 @@ fn read_word(text: &[u8]) -> Option<u64>
 }
 
 // The block that 32 digits write; any other text writes none.
+#[tactic(auto, unfolding(crate::specs::Hex::block_of))]
 pub fn read_block(text: &[u8]) -> Option<Block>
     ensures { result ≡ block_of text.now }
 {

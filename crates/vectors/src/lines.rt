@@ -123,6 +123,7 @@ fn newline_at(text: &[u8]) -> Option<usize>
 }
 
 // The first line of a text, without the newline that ends it, and what follows.
+#[tactic(auto, using(crate::proofs::Scan::found, crate::proofs::Scan::missing))]
 fn first_line(text: &[u8]) -> (&[u8], &[u8])
     ensures line { result.0.now ≡ before_first is_newline text.now }
     ensures rest { result.1.now ≡ after_first is_newline text.now }
@@ -134,6 +135,7 @@ fn first_line(text: &[u8]) -> (&[u8], &[u8])
 }
 
 // The tally of a whole text, line by line.
+#[tactic(auto, using(crate::proofs::Scan::first_counts))]
 pub fn tally_of<C: Cipher>(text: &[u8]) -> Tally
     ensures { result ≡ tallied C.encrypted text.now }
 {
