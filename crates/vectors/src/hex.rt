@@ -15,6 +15,7 @@ fn digit(b: u8) -> Option<u8>
 }
 
 // The number that the digits write, modulo 2^64.
+#[tactic(auto, using(crate::proofs::Digits::one_digit))]
 fn read_word(text: &[u8]) -> Option<u64>
     ensures { result ≡ number_from (Some 0) text.now }
 {
