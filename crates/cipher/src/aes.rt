@@ -8,7 +8,7 @@ use crate::Block;
 use crate::tables::{spread, sub};
 use std::ops::BitXor;
 
-// Four columns: the state, or a round key.
+// Four columns: the state, or a round key. Named as the definition names them; an array would say the same by index.
 #[derive(Clone, Copy)]
 struct Words {
     c0: u32,

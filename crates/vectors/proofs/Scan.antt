@@ -1,6 +1,6 @@
 -- A text cut at its newlines: its first line, and the tally of what follows.
 -- Assumes nothing.
-use Rattle.std.proofs.Common.{◌≡◌, ℕ, suc, ◌+◌, ◌≤◌, ◌<◌, Bool, true, false, cond, eqb, List, [], ◌∷◌, ◌++◌, length, Some, None, nat_lt, take, drop, not, ne_eqb, sym, refl, ap, ◌∙◌, ap₂, arith, length-append, append-nil, append_assoc}
+use Rattle.std.proofs.Common.{◌≡◌, ℕ, suc, ◌+◌, ◌≤◌, ◌<◌, true, false, cond, eqb, List, [], ◌∷◌, ◌++◌, length, Some, None, take, drop, not, ne_eqb, sym, ap, ◌∙◌, ap₂, arith, length-append, append-nil, append_assoc}
 use Rattle.std.proofs.lemmas.Grind.{common_steps}
 use Rattle.std.specs.List.{after_first, before_first, position, position_or_len}
 use Rattle.vectors.specs.declared.lines.Tally.{Tally}
@@ -24,17 +24,16 @@ module _ (judge : List ℕ → Verdict) where
   counts line t (b ∷ xs) h =
       let n = position_or_len is_newline xs in
       elim (eqb b 10) as (λ v.
-        cond v (tallied_from judge [] (counted t (judge line)) xs) (tallied_from judge (line ++ (b ∷ [])) t xs)
-        ≡ tallied_from judge [] (counted t (judge (line ++ take (cond (not v) (1 + n) 0) (b ∷ xs)))) (drop (cond (not v) (1 + n) 0 + 1) (b ∷ xs)))
-      [
+      cond v (tallied_from judge [] (counted t (judge line)) xs) (tallied_from judge (line ++ (b ∷ [])) t xs)
+      ≡ tallied_from judge [] (counted t (judge (line ++ take (cond (not v) (1 + n) 0) (b ∷ xs)))) (drop (cond (not v) (1 + n) 0 + 1) (b ∷ xs))) [
         | true ↦ ap (λ l. tallied_from judge [] (counted t (judge l)) xs) (sym (append-nil line))
         | false ↦
-          let more : length (line ++ (b ∷ [])) ≡ length line + 1 = length-append line (b ∷ []) in
-          let taken : suc n ≡ 1 + n = omega arith in
-          let dropped : suc (n + 1) ≡ 1 + n + 1 = omega arith in
-          counts (line ++ (b ∷ [])) t xs (omega (arith, more))
-          ∙ ap (λ l. tallied_from judge [] (counted t (judge l)) (drop (n + 1) xs)) (append_assoc line (b ∷ []) (take n xs))
-          ∙ ap₂ (λ (i j : ℕ). tallied_from judge [] (counted t (judge (line ++ take i (b ∷ xs)))) (drop j (b ∷ xs))) taken dropped
+            let more : length (line ++ (b ∷ [])) ≡ length line + 1 = length-append line (b ∷ []) in
+            let taken : suc n ≡ 1 + n = omega arith in
+            let dropped : suc (n + 1) ≡ 1 + n + 1 = omega arith in
+            counts (line ++ (b ∷ [])) t xs (omega (arith, more))
+            ∙ ap (λ l. tallied_from judge [] (counted t (judge l)) (drop (n + 1) xs)) (append_assoc line (b ∷ []) (take n xs))
+            ∙ ap₂ (λ (i j : ℕ). tallied_from judge [] (counted t (judge (line ++ take i (b ∷ xs)))) (drop j (b ∷ xs))) taken dropped
       ]
 
   pub first_counts : (t : Tally) (xs : List ℕ) → eqb (length xs) 0 ≡ false

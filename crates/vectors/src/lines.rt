@@ -122,7 +122,8 @@ fn newline_at(text: &[u8]) -> Option<usize>
     text.iter().position(|b| *b == b'\n')
 }
 
-// The first line of a text, without the newline that ends it, and what follows.
+// The first line of a text, without the newline that ends it, and what follows. A text that ends in a newline has no empty
+// line after it, as `split` would give.
 #[tactic(auto, using(crate::proofs::Scan::found, crate::proofs::Scan::missing))]
 fn first_line(text: &[u8]) -> (&[u8], &[u8])
     ensures line { result.0.now ≡ before_first is_newline text.now }
