@@ -1,8 +1,8 @@
 -- Round key r + 1 is made from round key r and one constant. So the code, which holds one round key at a time, makes the round keys
 -- that the words of the key schedule give.
 -- Assumes nothing.
-use Rattle.std.proofs.Common.{◌≡◌, ℕ, zero, suc, ◌+◌, ◌-◌, ◌*◌, ◌/◌, ◌%◌, Bool, false, cond, eqb, get_or, sym, refl, ap, ◌∙◌, arith}
-use Rattle.cipher.specs.Aes.{Column, State, xor_column, constants, rot_sub, carried, key_word, round_key}
+use Rattle.std.proofs.Common.{◌≡◌, ℕ, zero, suc, ◌+◌, ◌-◌, ◌*◌, ◌/◌, ◌%◌, Bool, false, cond, eqb, get_or, sym, refl, ap, ◌∙◌, arith, add-one, take, get_or-take, ◌<◌}
+use Rattle.cipher.specs.Aes.{Column, State, mix_columns, rounds, shift_rows, sub_bytes, xor_column, xor_state, constants, rot_sub, carried, key_word, round_key}
 use Rattle.cipher.specs.AesWords.{next_key, next0, next1, next2, next3}
 
 carried-at : (i r : ℕ) (u : Column) → i % 4 ≡ 0 → i / 4 - 1 ≡ r → carried i u ≡ rot_sub (get_or constants r 0) u
@@ -80,6 +80,19 @@ module _ (key : State) (r : ℕ) where
 pub first_key : (key : State) → round_key key 0 ≡ key
 unfolding round_key key_word
 first_key key = refl
+
+-- the same with places counted by r + 1, as a loop over the first n constants and what follows it read them
+pub next_round_key : (key : State) (n r : ℕ) → r < n → round_key key (r + 1) ≡ next_key (get_or (take n constants) r 0) (round_key key r)
+next_round_key key n r l = rw add-one (next_key_lem key r ∙ ap (λ c. next_key c (round_key key r)) (sym (get_or-take n constants r 0 l)))
+
+pub last_round_key : (key : State) (r : ℕ) → round_key key (r + 1) ≡ next_key (get_or constants r 0) (round_key key r)
+last_round_key key r = rw add-one (next_key_lem key r)
+
+pub one_round : (keys : ℕ → State) (s : State) (r : ℕ) → rounds keys s (r + 1) ≡ xor_state (mix_columns (shift_rows (sub_bytes (rounds keys s r)))) (keys (r + 1))
+unfolding rounds
+one_round keys s r = rw add-one refl
+
+pub ruleset rounds_in_turn = (first_key, next_round_key, last_round_key, one_round)
 
 -- the round keys, each made from the one before it
 unfoldable pub steps : State → ℕ → State

@@ -1,13 +1,14 @@
 // AES-128 on columns held as words of 32 bits, row 0 in the high byte. Round keys are made on the way, since a key is
 // mostly used for one block or two.
-ghost use Rattle.std.specs.Prelude.{◌≡◌, ◌+◌, ◌<◌, slice_index};
-ghost use Rattle.cipher.specs.Aes.{aes, block_of_state, ciphered, column, constants, diagonal, mix_column, mix_columns, rot_sub, round_key, rounds, shift_rows, state_of_block, sub_bytes, sub_column, xor_state};
-ghost use Rattle.cipher.specs.AesWords.{next_key, state_of_words};
+ghost use Rattle.std.specs.Prelude.{◌≡◌, ◌+◌, ◌<◌};
+ghost use Rattle.cipher.specs.Aes.{aes, block_of_state, ciphered, column, diagonal, mix_column, mix_columns, rot_sub, round_key, rounds, shift_rows, state_of_block, sub_bytes, sub_column, xor_state};
+ghost use Rattle.cipher.specs.AesWords.{column_of, next_key, state_of_words};
 
 use crate::Block;
 use crate::tables::{spread, sub};
+use std::ops::BitXor;
 
-// Four columns: the state, or a round key.
+// Four columns: the state, or a round key. Named as the definition names them; an array would say the same by index.
 #[derive(Clone, Copy)]
 struct Words {
     c0: u32,
@@ -25,43 +26,76 @@ struct Running {
 
 const CONSTANTS: [u8; 10] = [0x01, 0x02, 0x04, 0x08, 0x10, 0x20, 0x40, 0x80, 0x1b, 0x36];
 
-// The constant that round key r + 1 is made with.
-fn constant(r: usize) -> u8
-    requires { r < 10 }
-    ensures { result ≡ slice_index constants r }
-{
-    CONSTANTS[r]
-}
+impl From<Block> for Words {
+    ghost from_gives = { λ b s. state_of_words s ≡ state_of_block b };
 
-fn columns(b: Block) -> Words
-    ensures { state_of_words result ≡ state_of_block b }
-{
-    Words {
-        c0: (b.high / 0x1_0000_0000) as u32,
-        c1: (b.high % 0x1_0000_0000) as u32,
-        c2: (b.low / 0x1_0000_0000) as u32,
-        c3: (b.low % 0x1_0000_0000) as u32,
+    fn from(b: Block) -> Words {
+        Words {
+            c0: (b.high / 0x1_0000_0000) as u32,
+            c1: (b.high % 0x1_0000_0000) as u32,
+            c2: (b.low / 0x1_0000_0000) as u32,
+            c3: (b.low % 0x1_0000_0000) as u32,
+        }
     }
 }
 
-fn joined(s: Words) -> Block
-    ensures { result ≡ block_of_state (state_of_words s) }
-{
-    Block {
-        high: s.c0 as u64 * 0x1_0000_0000 + s.c1 as u64,
-        low: s.c2 as u64 * 0x1_0000_0000 + s.c3 as u64,
+impl From<Words> for Block {
+    ghost from_gives = { λ s b. b ≡ block_of_state (state_of_words s) };
+
+    #[tactic(auto, using(crate::proofs::Bridge::word_column), unfolding(crate::specs::Aes::block_of_state))]
+    fn from(s: Words) -> Block {
+        Block {
+            high: s.c0 as u64 * 0x1_0000_0000 + s.c1 as u64,
+            low: s.c2 as u64 * 0x1_0000_0000 + s.c3 as u64,
+        }
     }
 }
 
-fn xor(a: Words, b: Words) -> Words
-    ensures { state_of_words result ≡ xor_state (state_of_words a) (state_of_words b) }
-{
-    Words {
-        c0: a.c0 ^ b.c0,
-        c1: a.c1 ^ b.c1,
-        c2: a.c2 ^ b.c2,
-        c3: a.c3 ^ b.c3,
+impl BitXor for Words {
+    type Output = Words;
+
+    ghost bitxor_gives = { λ a b s. state_of_words s ≡ xor_state (state_of_words a) (state_of_words b) };
+
+    #[tactic(auto, using(crate::proofs::Bridge::column_xor))]
+    fn bitxor(self, rhs: Words) -> Words {
+        Words {
+            c0: self.c0 ^ rhs.c0,
+            c1: self.c1 ^ rhs.c1,
+            c2: self.c2 ^ rhs.c2,
+            c3: self.c3 ^ rhs.c3,
+        }
     }
+}
+
+impl Words {
+    // The columns of a round, each `f` of the four columns that hold its bytes.
+    fn each_column<F: Fn(u32, u32, u32, u32) -> u32>(self, f: F) -> Words
+        requires { F.IsAlwaysCallable f }
+        ensures c0 { F.post f self.c0 self.c1 self.c2 self.c3 result.c0 }
+        ensures c1 { F.post f self.c1 self.c2 self.c3 self.c0 result.c1 }
+        ensures c2 { F.post f self.c2 self.c3 self.c0 self.c1 result.c2 }
+        ensures c3 { F.post f self.c3 self.c0 self.c1 self.c2 result.c3 }
+    {
+        let Words { c0, c1, c2, c3 } = self;
+        Words {
+            c0: f(c0, c1, c2, c3),
+            c1: f(c1, c2, c3, c0),
+            c2: f(c2, c3, c0, c1),
+            c3: f(c3, c0, c1, c2),
+        }
+    }
+}
+
+// The bytes of one column after the rows have moved, from the four columns that hold them.
+#[tactic(auto, unfolding(crate::specs::Aes::column, crate::specs::Aes::diagonal))]
+fn diagonal(a: u32, b: u32, c: u32, d: u32) -> [u8; 4]
+    ensures { column_of result ≡ diagonal (column a) (column b) (column c) (column d) }
+{
+    let [a, _, _, _] = a.to_be_bytes();
+    let [_, b, _, _] = b.to_be_bytes();
+    let [_, _, c, _] = c.to_be_bytes();
+    let [_, _, _, d] = d.to_be_bytes();
+    [a, b, c, d]
 }
 
 // One column of a round, from the four columns that hold its bytes. The spread table gives the part of each byte as if it
@@ -69,49 +103,35 @@ fn xor(a: Words, b: Words) -> Words
 fn mixed_column(a: u32, b: u32, c: u32, d: u32) -> u32
     ensures { column result ≡ mix_column (diagonal (sub_column (column a)) (sub_column (column b)) (sub_column (column c)) (sub_column (column d))) }
 {
-    let [a, _, _, _] = a.to_be_bytes();
-    let [_, b, _, _] = b.to_be_bytes();
-    let [_, _, c, _] = c.to_be_bytes();
-    let [_, _, _, d] = d.to_be_bytes();
+    let [a, b, c, d] = diagonal(a, b, c, d);
     let front = spread(a) ^ spread(b).rotate_right(8);
     let back = spread(c) ^ spread(d).rotate_right(8);
     front ^ back.rotate_right(16)
 }
 
 // The same in the last round, which does not mix.
+#[tactic(auto, using(crate::proofs::Bridge::column_bytes), unfolding(crate::specs::Aes::sub_column, crate::specs::Aes::diagonal))]
 fn last_column(a: u32, b: u32, c: u32, d: u32) -> u32
     ensures { column result ≡ diagonal (sub_column (column a)) (sub_column (column b)) (sub_column (column c)) (sub_column (column d)) }
 {
-    let [a, _, _, _] = a.to_be_bytes();
-    let [_, b, _, _] = b.to_be_bytes();
-    let [_, _, c, _] = c.to_be_bytes();
-    let [_, _, _, d] = d.to_be_bytes();
+    let [a, b, c, d] = diagonal(a, b, c, d);
     u32::from_be_bytes([sub(a), sub(b), sub(c), sub(d)])
 }
 
 fn mixed_round(s: Words) -> Words
     ensures { state_of_words result ≡ mix_columns (shift_rows (sub_bytes (state_of_words s))) }
 {
-    Words {
-        c0: mixed_column(s.c0, s.c1, s.c2, s.c3),
-        c1: mixed_column(s.c1, s.c2, s.c3, s.c0),
-        c2: mixed_column(s.c2, s.c3, s.c0, s.c1),
-        c3: mixed_column(s.c3, s.c0, s.c1, s.c2),
-    }
+    s.each_column(mixed_column)
 }
 
 fn last_round(s: Words) -> Words
     ensures { state_of_words result ≡ shift_rows (sub_bytes (state_of_words s)) }
 {
-    Words {
-        c0: last_column(s.c0, s.c1, s.c2, s.c3),
-        c1: last_column(s.c1, s.c2, s.c3, s.c0),
-        c2: last_column(s.c2, s.c3, s.c0, s.c1),
-        c3: last_column(s.c3, s.c0, s.c1, s.c2),
-    }
+    s.each_column(last_column)
 }
 
 // The last word of a round key, its bytes rotated one place left and put through the S-box, the first xored with the constant.
+#[tactic(auto, using(crate::proofs::Bridge::column_bytes), unfolding(crate::specs::Aes::column, crate::specs::Aes::rot_sub))]
 fn rotated(u: u32, constant: u8) -> u32
     ensures { column result ≡ rot_sub constant (column u) }
 {
@@ -119,6 +139,7 @@ fn rotated(u: u32, constant: u8) -> u32
     u32::from_be_bytes([sub(b) ^ constant, sub(c), sub(d), sub(a)])
 }
 
+#[tactic(auto, using(crate::proofs::Bridge::column_xor))]
 fn next_key(k: Words, constant: u8) -> Words
     ensures { state_of_words result ≡ next_key constant (state_of_words k) }
 {
@@ -130,20 +151,21 @@ fn next_key(k: Words, constant: u8) -> Words
 }
 
 // The first rounds, none of them the last, and the key of the round after them. Round key 0 is the key itself.
+#[tactic(auto, using(crate::proofs::Schedule::rounds_in_turn), unfolding(crate::specs::Aes::rounds))]
 fn first_rounds(key: Words, block: Words, count: usize) -> Running
     requires { count < 10 }
     ensures state { state_of_words result.state ≡ rounds (round_key (state_of_words key)) (xor_state (state_of_words block) (round_key (state_of_words key) 0)) count }
     ensures key { state_of_words result.key ≡ round_key (state_of_words key) (count + 1) }
 {
     let mut current = key;
-    let mut state = xor(block, key);
-    for r in 0..count {
-        current = next_key(current, constant(r));
-        state = xor(mixed_round(state), current);
+    let mut state = block ^ key;
+    for constant in &CONSTANTS[..count] {
+        current = next_key(current, *constant);
+        state = mixed_round(state) ^ current;
     }
     Running {
         state,
-        key: next_key(current, constant(count)),
+        key: next_key(current, CONSTANTS[count]),
     }
 }
 
@@ -151,11 +173,12 @@ fn all_rounds(key: Words, block: Words) -> Words
     ensures { state_of_words result ≡ ciphered (round_key (state_of_words key)) (state_of_words block) }
 {
     let last = first_rounds(key, block, 9);
-    xor(last_round(last.state), last.key)
+    last_round(last.state) ^ last.key
 }
 
+#[tactic(auto, unfolding(crate::specs::Aes::aes))]
 pub fn encrypt(key: Block, block: Block) -> Block
     ensures { result ≡ aes key block }
 {
-    joined(all_rounds(columns(key), columns(block)))
+    all_rounds(key.into(), block.into()).into()
 }

@@ -33,14 +33,11 @@ fn step(p: Progress, i: u64) -> Progress
 fn rounds(key: Block, block: Block, count: u64) -> Progress
     ensures { result ≡ progress key block count }
 {
-    let mut p = Progress {
+    let start = Progress {
         keys: key,
         text: block,
     };
-    for i in 0..count {
-        p = step(p, i);
-    }
-    p
+    (0..count).fold(start, step)
 }
 
 pub fn encrypt(key: Block, block: Block) -> Block

@@ -1,4 +1,5 @@
-// The ciphers for callers in C. `Block` crosses by value, as two words of 64 bits.
+// The ciphers for callers in C, a call for each, since a caller there cannot name a cipher by a type. `Block` crosses by
+// value, as two words of 64 bits.
 #![tactic(auto)]
 
 ghost use Rattle.std.specs.Prelude.{◌≡◌};

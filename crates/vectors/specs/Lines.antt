@@ -1,6 +1,6 @@
 -- The lines of a file of test vectors, and what they come to under a cipher.
 -- Assumes nothing.
-use Rattle.std.specs.Prelude.{ℕ, ◌+◌, ◌-◌, ◌^◌, min, Bool, false, cond, ◌&&◌, List, [], ◌∷◌, ◌++◌, length, take, drop, Some, None, Option, ◌==◌, slice_index}
+use Rattle.std.specs.Prelude.{ℕ, ◌+◌, ◌-◌, ◌^◌, min, Bool, false, cond, ◌&&◌, List, [], ◌∷◌, ◌++◌, length, take, drop, Some, None, Option, ◌==◌, slice_index, codes, decimal}
 use Rattle.cipher.specs.declared.Block.{Block}
 use Rattle.vectors.specs.declared.lines.Tally.{Tally}
 use Rattle.vectors.specs.declared.lines.Vector.{Vector}
@@ -56,9 +56,16 @@ counted t Agrees = record { agree = one_more t.agree; differ = t.differ; malform
 counted t Differs = record { agree = t.agree; differ = one_more t.differ; malformed = t.malformed }
 counted t Malformed = record { agree = t.agree; differ = t.differ; malformed = one_more t.malformed }
 
+-- what is printed of a tally
+abbrev pub tally_text : Tally → List ℕ
+tally_text t = decimal t.agree ++ codes " agree, " ++ decimal t.differ ++ codes " differ, " ++ decimal t.malformed ++ codes " not in form"
+
 -- the tally of no lines
 abbrev pub empty : Tally
 empty = record { agree = 0; differ = 0; malformed = 0 }
+
+abbrev pub is_newline : ℕ → Bool
+is_newline b = b == 10
 
 -- the tally of a text under a judge of lines, where `line` was read of the current line and t counts the lines before it.
 -- A newline ends a line, and so does the end of the text, unless nothing was read of the line

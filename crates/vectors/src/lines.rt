@@ -1,9 +1,11 @@
 // The lines of a file of test vectors: key, block and ciphertext, each in 32 hex digits.
-ghost use Rattle.std.specs.Prelude.{◌≡◌, length};
-ghost use Rattle.vectors.specs.Lines.{compared, counted, empty, has_blanks, is_comment, tallied, vector_from, vector_of, verdict};
+ghost use Rattle.std.specs.Prelude.{◌≡◌, Some, length};
+ghost use Rattle.std.specs.List.{after_first, before_first, position};
+ghost use Rattle.vectors.specs.Lines.{compared, counted, has_blanks, is_comment, is_newline, tallied, tally_text, vector_of, verdict};
 
 use crate::hex::read_block;
 use cipher::{Block, Cipher};
+use std::fmt;
 
 #[derive(Clone, Copy)]
 pub struct Vector {
@@ -23,10 +25,7 @@ pub enum Verdict {
 fn is_comment(line: &[u8]) -> bool
     ensures { result ≡ is_comment line.now }
 {
-    match line {
-        [] => false,
-        [first, ..] => *first == b'#',
-    }
+    line.starts_with(b"#")
 }
 
 // Whether the blanks between the three blocks are there.
@@ -34,44 +33,27 @@ fn has_blanks(line: &[u8]) -> bool
     requires { length line.now ≡ 98 }
     ensures { result ≡ has_blanks line.now }
 {
-    (line[32] == b' ') & (line[65] == b' ')
-}
-
-// A vector from its three blocks, if all are there.
-fn assemble(key: Option<Block>, block: Option<Block>, answer: Option<Block>) -> Option<Vector>
-    ensures { result ≡ vector_from key block answer }
-{
-    match (key, block, answer) {
-        (Some(key), Some(block), Some(answer)) => Some(Vector { key, block, answer }),
-        _ => None,
-    }
+    line[32] == b' ' && line[65] == b' '
 }
 
 fn read_vector(line: &[u8]) -> Option<Vector>
     ensures { result ≡ vector_of line.now }
 {
-    if line.len() != 98 {
+    if line.len() != 98 || !has_blanks(line) {
         return None;
     }
-    if !has_blanks(line) {
-        return None;
-    }
-    assemble(
-        read_block(&line[..32]),
-        read_block(&line[33..65]),
-        read_block(&line[66..98]),
-    )
+    Some(Vector {
+        key: read_block(&line[..32])?,
+        block: read_block(&line[33..65])?,
+        answer: read_block(&line[66..])?,
+    })
 }
 
 fn compare(made: Block, answer: Block) -> Verdict
     ensures { result ≡ compared made answer }
 {
-    if made.high == answer.high {
-        if made.low == answer.low {
-            Verdict::Agrees
-        } else {
-            Verdict::Differs
-        }
+    if made == answer {
+        Verdict::Agrees
     } else {
         Verdict::Differs
     }
@@ -91,68 +73,79 @@ pub fn judge<C: Cipher>(line: &[u8]) -> Verdict
 }
 
 // How many lines came to each verdict. The counts stop at the largest number that fits.
-#[derive(Clone, Copy)]
+#[derive(Clone, Copy, Default)]
 pub struct Tally {
-    pub agree: u64,
-    pub differ: u64,
-    pub malformed: u64,
+    agree: u64,
+    differ: u64,
+    malformed: u64,
 }
 
 impl Tally {
-    pub fn new() -> Self
-        ensures { result ≡ empty }
-    {
-        Tally {
-            agree: 0,
-            differ: 0,
-            malformed: 0,
-        }
-    }
-
     // The tally with one line more. Comments do not count.
     pub fn with(self, v: Verdict) -> Self
         ensures { result ≡ counted self v }
     {
-        let Tally {
-            agree,
-            differ,
-            malformed,
-        } = self;
         match v {
             Verdict::Comment => self,
             Verdict::Agrees => Tally {
-                agree: agree.saturating_add(1),
-                differ,
-                malformed,
+                agree: self.agree.saturating_add(1),
+                ..self
             },
             Verdict::Differs => Tally {
-                agree,
-                differ: differ.saturating_add(1),
-                malformed,
+                differ: self.differ.saturating_add(1),
+                ..self
             },
             Verdict::Malformed => Tally {
-                agree,
-                differ,
-                malformed: malformed.saturating_add(1),
+                malformed: self.malformed.saturating_add(1),
+                ..self
             },
         }
     }
 }
 
+impl fmt::Display for Tally {
+    ghost output = { λ t. Some (tally_text t) };
+
+    fn fmt<W: fmt::Write>(&self, f: &mut fmt::Formatter<W>) -> fmt::Result {
+        let Tally {
+            agree,
+            differ,
+            malformed,
+        } = *self;
+        write!(f, "{agree} agree, {differ} differ, {malformed} not in form")
+    }
+}
+
+fn newline_at(text: &[u8]) -> Option<usize>
+    ensures { result ≡ position is_newline text.now }
+{
+    text.iter().position(|b| *b == b'\n')
+}
+
+// The first line of a text, without the newline that ends it, and what follows. A text that ends in a newline has no empty
+// line after it, as `split` would give.
+#[tactic(auto, using(crate::proofs::Scan::found, crate::proofs::Scan::missing))]
+fn first_line(text: &[u8]) -> (&[u8], &[u8])
+    ensures line { result.0.now ≡ before_first is_newline text.now }
+    ensures rest { result.1.now ≡ after_first is_newline text.now }
+{
+    match newline_at(text) {
+        Some(i) => (&text[..i], &text[i + 1..]),
+        None => (text, &[]),
+    }
+}
+
 // The tally of a whole text, line by line.
+#[tactic(auto, using(crate::proofs::Scan::first_counts))]
 pub fn tally_of<C: Cipher>(text: &[u8]) -> Tally
     ensures { result ≡ tallied C.encrypted text.now }
 {
-    let mut tally = Tally::new();
-    let mut start = 0;
-    for i in 0..text.len() {
-        if text[i] == b'\n' {
-            tally = tally.with(judge::<C>(&text[start..i]));
-            start = i + 1;
-        }
-    }
-    if start < text.len() {
-        return tally.with(judge::<C>(&text[start..]));
+    let mut tally = Tally::default();
+    let mut rest = text;
+    while !rest.is_empty() {
+        let (line, after) = first_line(rest);
+        tally = tally.with(judge::<C>(line));
+        rest = after;
     }
     tally
 }

@@ -1,13 +1,12 @@
-use Rattle.std.proofs.Common.{ℕ, ◌^◌, ◌<◌, List, get_or, ap, ◌∙◌, ap₂, arith}
+use Rattle.std.proofs.Common.{ℕ, ◌^◌, ◌<◌, ap, ◌∙◌, ap₂, arith}
 use lib.Bits.{bit_xor, xor_lt}
-use Rattle.cipher.specs.Aes.{column, sub_column, diagonal}
-use Rattle.cipher.specs.Tables.{spread_of}
+use Rattle.cipher.specs.Aes.{column, diagonal, mix_column, sub_column}
 use Rattle.cipher.proofs.Bridge.{right16}
 use Rattle.cipher.proofs.Mixing.{mixing}
 use Rattle.cipher.proofs.aes.mixed_column.Goals as goal
 
 pub returns : goal.returns
-unfolding column sub_column diagonal
+unfolding diagonal sub_column
 returns c =
     let s1 = c.spread.result in
     let s2 = c.spread-2.result in
@@ -19,7 +18,5 @@ returns c =
     let small : bit_xor s3 c.rotate_right-2.result < 2 ^ 32 = xor_lt 32 s3 c.rotate_right-2.result (omega arith) (omega arith) in
     ap column (ap₂ (λ (m n : ℕ). bit_xor (bit_xor s1 m) n) front whole)
     ∙ mixing s1 s2 s3 s4 _ _ _ _ (omega arith) (omega arith) (rw back at small)
-    (c.spread.ensures ∙ ap (λ (l : List ℕ). spread_of (get_or l 0 0)) c.to_be_bytes.ensures)
-    (c.spread-2.ensures ∙ ap (λ (l : List ℕ). spread_of (get_or l 1 0)) c.to_be_bytes-2.ensures)
-    (c.spread-3.ensures ∙ ap (λ (l : List ℕ). spread_of (get_or l 2 0)) c.to_be_bytes-3.ensures)
-    (c.spread-4.ensures ∙ ap (λ (l : List ℕ). spread_of (get_or l 3 0)) c.to_be_bytes-4.ensures)
+    c.spread.ensures c.spread-2.ensures c.spread-3.ensures c.spread-4.ensures
+    ∙ ap (λ u. mix_column (sub_column u)) c.diagonal.ensures
