@@ -57,12 +57,8 @@ impl<K> Running<K> {
         if n >= store.capacity() {
             return Err(Refusal::Full);
         }
-        let Some(before) = self.source.key(n as u64) else {
-            return Err(Refusal::NoKeyBefore);
-        };
-        let Some(after) = self.source.key(n as u64 + 1) else {
-            return Err(Refusal::NoKeyAfter);
-        };
+        let before = self.source.key(n as u64).ok_or(Refusal::NoKeyBefore)?;
+        let after = self.source.key(n as u64 + 1).ok_or(Refusal::NoKeyAfter)?;
         store.put(sealed(line, before, after))?;
         Ok(n)
     }
