@@ -8,7 +8,7 @@ use Rattle.refusal.specs.declared.Refusal.{Refusal}
 use Rattle.refusal.proofs.Judging.{answered, refusal-judged, judged-passed, clear, unrefused}
 use Rattle.group.specs.Kind.{Kind}
 use Rattle.group.proofs.Algebra.{add-remove}
-use Rattle.store.specs.Contents.{Contents, nth}
+use Rattle.store.specs.Contents.{Contents, push, nth}
 use Rattle.source.specs.Sources.{Keys, Has, Agree, or_zero, key}
 use Rattle.layers.specs.Layers.{coarse}
 use Rattle.layers.specs.Posting.{Posts, post_rules, envelope}
@@ -162,9 +162,7 @@ module _ {G V : Type 0} (k : Kind G V) (step : ℕ) where
       let more = next r p in
       (more, post_law k step fine other answer (accepted_posts answers) (held r).count p, fits k step fine other (held more))
 
-  pub post_grows : (fine other : Keys G) (before after : Contents G) (answer : Result ℕ Refusal) → Posts k step fine other before answer after → Grows k before after
-  post_grows fine other before after (Ok j) p width reader i x is =
-      let n = length before.entries in
-      let more = coarse-more k width before.entries (envelope k step fine other n) reader i x is in
-      subst (λ c. coarse k width c.entries reader i ≡ Some x) (sym p.leaves) more
-  post_grows fine other before after (Err e) p width reader i x is = subst (λ c. coarse k width c.entries reader i ≡ Some x) (sym p.leaves) is
+-- No key is lost where an envelope more is posted.
+module _ {G V : Type 0} (k : Kind G V) where
+  pub push_grows : (before : Contents G) (e : G) {after : Contents G} → after ≡ push before e → Grows k before after
+  push_grows before e is width reader i x has = subst (λ c. coarse k width c.entries reader i ≡ Some x) (sym is) (coarse-more k width before.entries e reader i x has)
