@@ -1,7 +1,8 @@
 -- After every run of posts, posting and reading fit. Assumes nothing.
-use Rattle.std.proofs.Common.{◌≡◌, ℕ, ◌+◌, ◌*◌, ◌/◌, ◌%◌, ◌<◌, ◌≤◌, ltb, ◌↔◌, List, [], ◌∷◌, ◌++◌, length, is_some, Some, None, Ok, Err, Result, sym, ap, ◌∙◌, subst, inl, inr, mul-div_cancel, arith}
+use Rattle.std.proofs.Common.{◌≡◌, ℕ, ◌+◌, ◌*◌, ◌/◌, ◌%◌, ◌<◌, ◌≤◌, ltb, ◌↔◌, List, [], ◌∷◌, ◌++◌, length, is_some, Some, None, Ok, Err, Result, sym, ap, ◌∙◌, subst, mul-div_cancel, arith}
 use native.Mathlib.Nat.{mul-mod_left}
-use Rattle.std.proofs.lemmas.Bool.{not-false, not_from_true, leb-false, lt-leb, ltb-false, le-ltb, or_parts, or_from, cases_lt}
+use borrow.Author.Count.{below_more}
+use Rattle.std.proofs.lemmas.Bool.{not-false, not_from_true, leb-false, lt-leb, ltb-false, le-ltb, or_parts, or_from}
 use Rattle.std.proofs.lemmas.List.{length_push}
 use Rattle.refusal.specs.Judged.{judged, first, refusal}
 use Rattle.refusal.specs.declared.Refusal.{Refusal}
@@ -50,20 +51,10 @@ module _ {G V : Type 0} (k : Kind G V) (step : ℕ) (fine other : Keys G) where
       record {
         count = ap length e ∙ length_push before new ∙ ap (λ m. m + 1) h.count;
         at = λ j l.
+            let here = subst (λ i. nth (before ++ (new ∷ [])) i ≡ Some (envelope k step fine other i)) h.count (nth_last before new) in
             ap (λ xs. nth xs j) e
-            ∙ elim (cases_lt j n) as (λ t. nth (before ++ (new ∷ [])) j ≡ Some (envelope k step fine other j)) [
-              | inl below ↦ let within : j < length before = omega (arith, h.count) in nth-front before new j within ∙ h.at j below
-              | inr above ↦
-                  let here : length before ≡ j = omega (arith, h.count) in
-                  subst (λ i. nth (before ++ (new ∷ [])) i ≡ Some (envelope k step fine other i)) here (nth_last before new)
-            ];
-        posted = λ j l.
-            elim (cases_lt j n) [
-              | inl below ↦ h.posted j below
-              | inr above ↦
-                  let here : length before ≡ j = omega (arith, h.count) in
-                  subst (λ i. (1 ≤ step) × Has other i × Has fine (i * step)) here found
-            ];
+            ∙ below_more (λ j. nth (before ++ (new ∷ [])) j ≡ Some (envelope k step fine other j)) n (λ j l. nth-front before new j (omega (arith, h.count)) ∙ h.at j l) here j l;
+        posted = below_more (λ i. (1 ≤ step) × Has other i × Has fine (i * step)) n h.posted (subst (λ i. (1 ≤ step) × Has other i × Has fine (i * step)) h.count found);
       }
 
   held_next : (answers : List (Result ℕ Refusal)) {before after : Contents G} (answer : Result ℕ Refusal) → Held k step fine other (accepted_posts answers) before.entries → Posts k step fine other before answer after → Held k step fine other (accepted_posts (answer ∷ answers)) after.entries

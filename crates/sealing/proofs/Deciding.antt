@@ -1,6 +1,7 @@
 -- What the loop of is_double knows, and what follows at each way out. Assumes nothing.
 use Rattle.std.proofs.Common.{◌≡◌, ℕ, ◌+◌, ◌<◌, ◌≤◌, Bool, true, false, ◌↔◌, ◌⊎◌, List, [], ◌∷◌, length, get_or, drop, Some, None, Option, sym, refl, ap, ◌∙◌, subst, inl, inr, arith}
-use Rattle.std.proofs.lemmas.Bool.{false≢true, cases_lt}
+use borrow.Author.Count.{below_more}
+use Rattle.std.proofs.lemmas.Bool.{false≢true}
 use Rattle.std.proofs.lemmas.List.{length-drop, drop_more}
 use Rattle.group.specs.Kind.{Kind}
 use Rattle.source.specs.Sources.{Keys, Has}
@@ -23,31 +24,15 @@ module _ {G V : Type 0} (k : Kind G V) (reader : Keys G) (lines others : List G)
   Known i (Some x) = (at : ℕ) × (at < i) × Has reader at × ((j : ℕ) → j < i → Has reader j → drift k lines others j ≡ k.value x)
 
   pub known_skip : (i : ℕ) (last : Option G) → Known i last → (Has reader i → ⊥) → Known (i + 1) last
-  known_skip i None known lacks = λ j h r.
-      elim (cases_lt j i) [ inl below ↦ known j below r | inr above ↦ let here : j ≡ i = omega arith in lacks (subst (Has reader) here r) ]
-  known_skip i (Some x) known lacks = (
-    known.0,
-    omega (arith, known.1),
-    known.2,
-    λ j h r.
-        elim (cases_lt j i) [ inl below ↦ known.3 j below r | inr above ↦ let here : j ≡ i = omega arith in absurd (lacks (subst (Has reader) here r)) ],
-  )
+  known_skip i None known lacks = below_more (λ j. Has reader j → ⊥) i known lacks
+  known_skip i (Some x) known lacks = (known.0, omega (arith, known.1), known.2, below_more (λ j. Has reader j → drift k lines others j ≡ k.value x) i known.3 (λ r. absurd (lacks r)))
 
   pub known-take : (i : ℕ) (last : Option G) (shift : G) → Known i last → Has reader i → Fits k last shift → k.value shift ≡ drift k lines others i → Known (i + 1) (Some shift)
-  known-take i None shift known has fits is = (
-    i,
-    omega arith,
-    has,
-    λ j h r.
-        elim (cases_lt j i) [ inl below ↦ absurd (known j below r) | inr above ↦ let here : i ≡ j = omega arith in sym (is ∙ ap (drift k lines others) here) ],
-  )
-  known-take i (Some x) shift known has fits is = (
-    i,
-    omega arith,
-    has,
-    λ j h r.
-        elim (cases_lt j i) [ inl below ↦ known.3 j below r ∙ fits | inr above ↦ let here : i ≡ j = omega arith in sym (is ∙ ap (drift k lines others) here) ],
-  )
+  known-take i last shift known has fits is = (i, omega arith, has, below_more (λ j. Has reader j → drift k lines others j ≡ k.value shift) i (earlier last known fits) (λ r. sym is))
+    where
+      earlier : (last : Option G) → Known i last → Fits k last shift → (j : ℕ) → j < i → Has reader j → drift k lines others j ≡ k.value shift
+      earlier None known fits j h r = absurd (known j h r)
+      earlier (Some x) known fits j h r = known.3 j h r ∙ fits
 
   -- Lists that sum alike have the same drift at the next key as at the last.
   fits_since : (i : ℕ) (last : Option G) (shift : G) → i ≤ length others → Known i last → Has reader i → k.value shift ≡ drift k lines others i → Alike k reader lines others → Fits k last shift
