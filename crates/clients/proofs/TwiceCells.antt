@@ -79,7 +79,7 @@ module _ {G V : Type 0} (k : Kind G V) (keys : Keys G) (x y : G) (before after :
   counted (Ok n) (Ok m) middle both is =
       ap (λ i. set middle.cells.now i (seal k keys 1 y)) (ap (λ c. length c.entries) is ∙ ap (λ xs. length (xs ++ (seal k keys 0 x ∷ []))) new)
   counted (Err e) (Ok m) middle both is = absurd (false≢true (both refl))
-  counted one (Err e) middle both is = refl
+  counted answer (Err e) middle both is = refl
 
   pub flat-left : CellsOfTwo k flat (λ s. s.cells.now) (λ s f. set s.cells.now (length (flat s).entries) f) keys x y before after → after.cells.now ≡ both_left k keys (flat before).capacity x y before.cells.now
   flat-left d =

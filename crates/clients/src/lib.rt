@@ -2,12 +2,6 @@
 // shows that no call can meet its contract by refusing, by answering a constant or by pretending to store.
 #![tactic(auto)]
 
-mod counts;
-mod flags;
-mod moments;
 mod two;
 
-pub use counts::two_counts;
-pub use flags::two_flags;
-pub use moments::two_moments;
-pub use two::{two_flat, two_in};
+pub use two::{two_flat, two_in, two_listed};

@@ -1,11 +1,14 @@
-// Two lines are sealed and their sum is opened: in any store, over lent cells, and at each kind of figure.
-ghost use Rattle.std.specs.Prelude.{◌≡◌, min, [], length};
-ghost use Rattle.clients.specs.Two.{SumOfTwo, CellsOfTwo, both_left};
+// Two lines are sealed and their sum is opened: in any store, over lent cells, and under listed keys.
+ghost use Rattle.std.specs.Prelude.{◌≡◌, ◌≤◌, min, true, ◌↔◌, [], length, is_ok, Ok};
+ghost use Rattle.refusal.specs.Judged.{first, refusal};
+ghost use Rattle.store.specs.Contents.{nth};
+ghost use Rattle.clients.specs.Two.{SumOfTwo, CellsOfTwo, both_left, two_rules};
+ghost use Rattle.clients.specs.Plain.{Sums, PlainSums};
 
 use group::Group;
 use refusal::Refusal;
 use sealing::{Running, open};
-use source::KeySource;
+use source::{KeyList, KeySource};
 use store::{FlatStore, Store};
 
 // In any new store, with the keys of any source.
@@ -38,4 +41,15 @@ pub fn two_flat<G: Group, K: KeySource<G> + Drop>(
 {
     let mut store = FlatStore::new(cells);
     two_in(source, &mut store, x, y)
+}
+
+// In a new store over these cells, under these keys; in plain arithmetic at each of the three kinds.
+pub fn two_listed<G: Group>(keys: &[G], cells: &mut [G], x: G, y: G) -> Result<G, Refusal>
+    ensures answered { is_ok result ≡ true ↔ ((2 ≤ length cells.old) × (3 ≤ length keys.now)) }
+    ensures figure { (v : G) → result ≡ Ok v → Sums G.Group.kind v x y }
+    ensures plainly { PlainSums }
+    ensures refuses { refusal result ≡ first (two_rules (nth keys.now) (min (length cells.old) 1048576)) }
+    ensures memory { cells.new ≡ both_left G.Group.kind (nth keys.now) (min (length cells.old) 1048576) x y cells.old }
+{
+    two_flat(KeyList { keys }, cells, x, y)
 }

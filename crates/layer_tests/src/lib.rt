@@ -14,7 +14,6 @@ mod tests {
     use layers::{Coarse, post};
     use refusal::Refusal;
     use source::{KeyList, KeySource};
-    use std::test::Fail;
     use store::FlatStore;
 
     const fn count(value: u64) -> Count
@@ -26,19 +25,13 @@ mod tests {
     fn value(key: Option<Count>) -> Option<u64>
         ensures { result ≡ shown key }
     {
-        match key {
-            Some(x) => Some(x.value),
-            None => None,
-        }
+        key.map(|x| x.value)
     }
 
     fn number(answer: Result<usize, Refusal>) -> Result<usize, u32>
         ensures { result ≡ refused answer }
     {
-        match answer {
-            Ok(j) => Ok(j),
-            Err(e) => Err(e.number()),
-        }
+        answer.map_err(Refusal::number)
     }
 
     // The answer to the first post into these cells.
@@ -148,7 +141,7 @@ mod tests {
     }
 
     #[test]
-    fn every_kind(rt: HostRuntime) -> Result<(), Fail> {
+    fn every_kind(rt: HostRuntime) {
         let few = [count(1), count(2)];
         let many = [count(10), count(u64::MAX), count(30)];
         let (one, other) = (KeyList { keys: &few }, KeyList { keys: &many });
@@ -156,16 +149,11 @@ mod tests {
         assert_eq!(rt; value(joint_key(&one, &other, 2)), None);
         let flags = [Flags { bits: 12 }, Flags { bits: 10 }];
         let list = KeyList { keys: &flags };
-        let Some(read) = second_key(&mut [Flags { bits: 0 }; 2], 1, &list, &list) else {
-            return Err(Fail::new("flags"));
-        };
-        assert_eq!(rt; read.bits, 10);
+        let read = second_key(&mut [Flags { bits: 0 }; 2], 1, &list, &list);
+        assert_eq!(rt; read.map(|x| x.bits), Some(10));
         let moments = [Moments::from_words([1, 2, 3]); 2];
         let list = KeyList { keys: &moments };
-        let Some(read) = second_key(&mut [Moments::identity(); 2], 1, &list, &list) else {
-            return Err(Fail::new("moments"));
-        };
-        assert_eq!(rt; read.squares, 3);
-        Ok(())
+        let read = second_key(&mut [Moments::identity(); 2], 1, &list, &list);
+        assert_eq!(rt; read.map(|x| x.squares), Some(3));
     }
 }

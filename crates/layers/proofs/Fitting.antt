@@ -1,14 +1,15 @@
 -- After every run of posts, posting and reading fit. Assumes nothing.
-use Rattle.std.proofs.Common.{◌≡◌, ℕ, ◌+◌, ◌*◌, ◌/◌, ◌%◌, ◌<◌, ◌≤◌, ltb, ◌↔◌, List, [], ◌∷◌, ◌++◌, length, is_some, Some, None, Ok, Err, Result, sym, ap, ◌∙◌, subst, inl, inr, mul-div_cancel, arith}
+use Rattle.std.proofs.Common.{◌≡◌, ℕ, ◌+◌, ◌*◌, ◌/◌, ◌%◌, ◌<◌, ◌≤◌, ltb, ◌↔◌, List, [], ◌∷◌, ◌++◌, length, is_some, Some, None, Ok, Err, Result, sym, ap, ◌∙◌, subst, mul-div_cancel, arith}
 use native.Mathlib.Nat.{mul-mod_left}
-use Rattle.std.proofs.lemmas.Bool.{not-false, not_from_true, leb-false, lt-leb, ltb-false, le-ltb, or_parts, or_from, cases_lt}
+use borrow.Author.Count.{below_more}
+use Rattle.std.proofs.lemmas.Bool.{not-false, not_from_true, leb-false, lt-leb, ltb-false, le-ltb, or_parts, or_from}
 use Rattle.std.proofs.lemmas.List.{length_push}
 use Rattle.refusal.specs.Judged.{judged, first, refusal}
 use Rattle.refusal.specs.declared.Refusal.{Refusal}
 use Rattle.refusal.proofs.Judging.{answered, refusal-judged, judged-passed, clear, unrefused}
 use Rattle.group.specs.Kind.{Kind}
 use Rattle.group.proofs.Algebra.{add-remove}
-use Rattle.store.specs.Contents.{Contents, nth}
+use Rattle.store.specs.Contents.{Contents, push, nth}
 use Rattle.source.specs.Sources.{Keys, Has, Agree, or_zero, key}
 use Rattle.layers.specs.Layers.{coarse}
 use Rattle.layers.specs.Posting.{Posts, post_rules, envelope}
@@ -50,20 +51,10 @@ module _ {G V : Type 0} (k : Kind G V) (step : ℕ) (fine other : Keys G) where
       record {
         count = ap length e ∙ length_push before new ∙ ap (λ m. m + 1) h.count;
         at = λ j l.
+            let here = subst (λ i. nth (before ++ (new ∷ [])) i ≡ Some (envelope k step fine other i)) h.count (nth_last before new) in
             ap (λ xs. nth xs j) e
-            ∙ elim (cases_lt j n) as (λ t. nth (before ++ (new ∷ [])) j ≡ Some (envelope k step fine other j)) [
-              | inl below ↦ let within : j < length before = omega (arith, h.count) in nth-front before new j within ∙ h.at j below
-              | inr above ↦
-                  let here : length before ≡ j = omega (arith, h.count) in
-                  subst (λ i. nth (before ++ (new ∷ [])) i ≡ Some (envelope k step fine other i)) here (nth_last before new)
-            ];
-        posted = λ j l.
-            elim (cases_lt j n) [
-              | inl below ↦ h.posted j below
-              | inr above ↦
-                  let here : length before ≡ j = omega (arith, h.count) in
-                  subst (λ i. (1 ≤ step) × Has other i × Has fine (i * step)) here found
-            ];
+            ∙ below_more (λ j. nth (before ++ (new ∷ [])) j ≡ Some (envelope k step fine other j)) n (λ j l. nth-front before new j (omega (arith, h.count)) ∙ h.at j l) here j l;
+        posted = below_more (λ i. (1 ≤ step) × Has other i × Has fine (i * step)) n h.posted (subst (λ i. (1 ≤ step) × Has other i × Has fine (i * step)) h.count found);
       }
 
   held_next : (answers : List (Result ℕ Refusal)) {before after : Contents G} (answer : Result ℕ Refusal) → Held k step fine other (accepted_posts answers) before.entries → Posts k step fine other before answer after → Held k step fine other (accepted_posts (answer ∷ answers)) after.entries
@@ -162,9 +153,7 @@ module _ {G V : Type 0} (k : Kind G V) (step : ℕ) where
       let more = next r p in
       (more, post_law k step fine other answer (accepted_posts answers) (held r).count p, fits k step fine other (held more))
 
-  pub post_grows : (fine other : Keys G) (before after : Contents G) (answer : Result ℕ Refusal) → Posts k step fine other before answer after → Grows k before after
-  post_grows fine other before after (Ok j) p width reader i x is =
-      let n = length before.entries in
-      let more = coarse-more k width before.entries (envelope k step fine other n) reader i x is in
-      subst (λ c. coarse k width c.entries reader i ≡ Some x) (sym p.leaves) more
-  post_grows fine other before after (Err e) p width reader i x is = subst (λ c. coarse k width c.entries reader i ≡ Some x) (sym p.leaves) is
+-- No key is lost where an envelope more is posted.
+module _ {G V : Type 0} (k : Kind G V) where
+  pub push_grows : (before : Contents G) (e : G) {after : Contents G} → after ≡ push before e → Grows k before after
+  push_grows before e is width reader i x has = subst (λ c. coarse k width c.entries reader i ≡ Some x) (sym is) (coarse-more k width before.entries e reader i x has)

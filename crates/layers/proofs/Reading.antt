@@ -1,10 +1,10 @@
--- When a joint and a coarse source have a key. Assumes nothing.
+-- When a coarse source has a key, and which. Assumes nothing.
 use Rattle.std.proofs.Common.{◌≡◌, ℕ, zero, suc, ◌*◌, ◌/◌, ◌%◌, ◌<◌, ◌≤◌, Bool, true, false, cond, eqb, ◌↔◌, List, [], ◌∷◌, ◌++◌, length, is_some, Some, None, Option, sym, refl, ap, ◌∙◌, div-add-mod', arith}
 use Rattle.std.proofs.lemmas.Bool.{false≢true, eqb-true, eqb-false, eq-eqb, ne_eqb}
 use Rattle.group.specs.Kind.{Kind}
 use Rattle.store.specs.Contents.{nth}
 use Rattle.source.specs.Sources.{Keys, Has, or_zero, key}
-use Rattle.layers.specs.Layers.{both, joint, coarse}
+use Rattle.layers.specs.Layers.{both, coarse}
 
 module _ {G : Type 0} where
   pub nth-some : (xs : List G) (i : ℕ) → is_some (nth xs i) ≡ true → i < length xs
@@ -47,12 +47,6 @@ module _ {G V : Type 0} (k : Kind G V) where
 
   pub is_key : (source : Keys G) (i : ℕ) → Has source i → source i ≡ Some (key k source i)
   is_key source i h = some_is (source i) h
-
-  pub joint-has : (one other : Keys G) (i : ℕ) → Has (joint k one other) i ↔ (Has one i × Has other i)
-  joint-has one other i = both_some k.plus (one i) (other i)
-
-  pub joint-key : (one other : Keys G) (i : ℕ) → Has one i → Has other i → joint k one other i ≡ Some (k.plus (key k one i) (key k other i))
-  joint-key one other i h j = (λ t. both k.plus (is_key one i h t) (is_key other i j t))
 
   pub coarse-has : (step : ℕ) (envelopes : List G) (other : Keys G) (i : ℕ) →
       Has (coarse k step envelopes other) i ↔ ((1 ≤ step) × (i % step ≡ 0) × (i / step < length envelopes) × Has other (i / step))

@@ -22,12 +22,8 @@ impl<'a, G: Group, S: Store<G>, K: KeySource<G>> KeySource<G> for Coarse<'a, S, 
             return None;
         }
         let j = number / self.step;
-        let Some(envelope) = self.envelopes.get(j as usize) else {
-            return None;
-        };
-        let Some(hiding) = self.other.key(j) else {
-            return None;
-        };
+        let envelope = self.envelopes.get(j as usize)?;
+        let hiding = self.other.key(j)?;
         Some(envelope.add(hiding.negate()))
     }
 }

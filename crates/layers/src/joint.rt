@@ -15,12 +15,8 @@ impl<G: Group, A: KeySource<G>, B: KeySource<G>> KeySource<G> for Joint<A, B> {
     ghost keys = { λ s. joint G.Group.kind (A.KeySource.keys s.one) (B.KeySource.keys s.other) };
 
     fn key(&self, number: u64) -> Option<G> {
-        let Some(x) = self.one.key(number) else {
-            return None;
-        };
-        let Some(y) = self.other.key(number) else {
-            return None;
-        };
+        let x = self.one.key(number)?;
+        let y = self.other.key(number)?;
         Some(x.add(y))
     }
 }

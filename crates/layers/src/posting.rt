@@ -40,12 +40,8 @@ pub fn post<G: Group, S: Store<G>, F: KeySource<G>, O: KeySource<G>>(
     if j >= envelopes.capacity() {
         return Err(Refusal::Full);
     }
-    let Some(hiding) = other.key(j as u64) else {
-        return Err(Refusal::NoKeyBefore);
-    };
-    let Some(hidden) = fine.key(j as u64 * step) else {
-        return Err(Refusal::NoKeyAfter);
-    };
+    let hiding = other.key(j as u64).ok_or(Refusal::NoKeyBefore)?;
+    let hidden = fine.key(j as u64 * step).ok_or(Refusal::NoKeyAfter)?;
     envelopes.put(hide(hidden, hiding))?;
     Ok(j)
 }

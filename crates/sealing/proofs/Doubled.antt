@@ -5,16 +5,18 @@ use Rattle.std.proofs.lemmas.Bool.{cases_lt, cases_Bool, cond-true, cond-false, 
 use Rattle.group.specs.Kind.{Kind, sum}
 use Rattle.group.proofs.Algebra.{swap, cancel, interchange, remove-add, less, plus-no_less}
 use Rattle.store.specs.Contents.{empty, nth, between}
-use Rattle.source.specs.Sources.{Keys, key, Has}
+use Rattle.source.specs.Sources.{Keys, or_zero, key, Has}
 use Rattle.store.proofs.Rows.{nth-within, nth_past}
 use Rattle.sealing.specs.Calls.{seal}
 use Rattle.sealing.specs.Doubles.{Double, Alike}
 use Rattle.refusal.proofs.Judging.{some-none}
 use Rattle.sealing.proofs.Drift.{sum-none, drift, drift-next, same-drift}
 use Rattle.sealing.proofs.Telescope.{seals, seal-step, telescoped, length-seals}
-use Rattle.sealing.proofs.Steps.{key_is}
 use Rattle.sealing.proofs.Runs.{Held, same_key}
 use Rattle.sealing.proofs.Filled.{filled, fills, get_or-seals, sum_alike}
+
+key_is : {G V : Type 0} (k : Kind G V) (source : Keys G) {i : ℕ} {x : G} → source i ≡ Some x → key k source i ≡ x
+key_is k source p = ap (or_zero k) p
 
 -- From a double to its sums.
 module _ {G V : Type 0} (k : Kind G V) (owner reader : Keys G) (lines ciphertexts others : List G) (held : Held k owner lines ciphertexts) where

@@ -1,6 +1,5 @@
 pub mod Drift
 pub mod Telescope
-pub mod Steps
 pub mod Runs
 pub mod Filled
 pub mod Doubled

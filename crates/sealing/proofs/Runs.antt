@@ -1,5 +1,6 @@
 -- Every run of appends and opens is faithful. Assumes nothing.
 use Rattle.std.proofs.Common.{◌≡◌, ℕ, ◌+◌, ◌-◌, ◌<◌, ◌≤◌, true, List, [], ◌∷◌, ◌++◌, length, is_some, Some, None, Ok, Err, Option, Result, sym, refl, ap, ◌∙◌, subst, inl, inr, zero-add, arith}
+use borrow.Author.Count.{below_more}
 use Rattle.std.proofs.lemmas.Bool.{false≢true, not-false, not_from_true, leb-false, lt-leb, ltb-false, le-ltb, cases_lt}
 use Rattle.std.proofs.lemmas.List.{length_push}
 use Rattle.refusal.specs.Judged.{judged, first, refusal}
@@ -63,14 +64,7 @@ module _ {G V : Type 0} (k : Kind G V) (owner : Keys G) where
             e ∙ ap (λ xs. xs ++ (seal k owner (length before) line ∷ [])) h.row
             ∙ ap (λ i. seals k owner 0 lines ++ (seal k owner i line ∷ [])) (count h ∙ sym (zero-add (length lines)))
             ∙ sym (seals-push k owner 0 lines line);
-        sides = λ i l.
-            let l' : i < length lines + 1 = subst (λ m. i < m) (length_push lines line) l in
-            elim (cases_lt i (length lines)) [
-              | inl below ↦ h.sides i below
-              | inr above ↦
-                  let here : length before ≡ i = count h ∙ omega arith in
-                  (subst (Has owner) here p, subst (λ m. Has owner (m + 1)) here q)
-            ];
+        sides = λ i l. below_more (λ i. Has owner i × Has owner (i + 1)) (length lines) h.sides (subst (λ n. Has owner n × Has owner (n + 1)) (count h) (p, q)) i (subst (λ m. i < m) (length_push lines line) l);
       }
 
   held_append : (calls : List (Call G)) {before after : Contents G} (line : G) (answer : Result ℕ Refusal) → Held k owner (accepted calls) before.entries → Appends k owner before line answer after → Held k owner (accepted (appended line answer ∷ calls)) after.entries

@@ -16,7 +16,8 @@ fn sealed<G: Group>(line: G, before: G, after: G) -> G
     line.add(before).add(after.negate())
 }
 
-// Takes lines.
+// Takes lines. Running and closed epochs are two types: they share `keys` alone, and one type with a parameter for its
+// state needs two marker types and a PhantomData field to save that one method.
 #[derive(Drop)]
 pub struct Running<K> {
     source: K,
@@ -57,12 +58,8 @@ impl<K> Running<K> {
         if n >= store.capacity() {
             return Err(Refusal::Full);
         }
-        let Some(before) = self.source.key(n as u64) else {
-            return Err(Refusal::NoKeyBefore);
-        };
-        let Some(after) = self.source.key(n as u64 + 1) else {
-            return Err(Refusal::NoKeyAfter);
-        };
+        let before = self.source.key(n as u64).ok_or(Refusal::NoKeyBefore)?;
+        let after = self.source.key(n as u64 + 1).ok_or(Refusal::NoKeyAfter)?;
         store.put(sealed(line, before, after))?;
         Ok(n)
     }
@@ -71,8 +68,9 @@ impl<K> Running<K> {
     pub fn close(self) -> Closed<K>
         ensures { result.source ≡ self.source }
     {
-        let Running { source } = self;
-        Closed { source }
+        Closed {
+            source: self.source,
+        }
     }
 }
 

@@ -3,7 +3,7 @@
 
 #[cfg(test)]
 mod tests {
-    use clients::{two_counts, two_flags, two_moments};
+    use clients::two_listed;
     use group::{Count, Flags, Group, Moments};
     use refusal::Refusal;
     use sealing::{Running, is_double, open};
@@ -18,22 +18,12 @@ mod tests {
     // A change of -v.
     const fn less(v: u64) -> Count {
         Count {
-            value: 0u64.wrapping_sub(v),
+            value: v.wrapping_neg(),
         }
     }
 
-    fn number<T: Drop>(r: Result<T, Refusal>) -> u32 {
-        match r {
-            Ok(_) => 0,
-            Err(e) => e.number(),
-        }
-    }
-
-    fn value(r: Result<Count, Refusal>) -> Result<u64, u32> {
-        match r {
-            Ok(x) => Ok(x.value),
-            Err(e) => Err(e.number()),
-        }
+    fn value(answer: Result<Count, Refusal>) -> Result<u64, u32> {
+        answer.map(|x| x.value).map_err(Refusal::number)
     }
 
     #[test]
@@ -46,7 +36,10 @@ mod tests {
             assert_eq!(rt; epoch.append(&mut store, count(5))?, 0);
             assert_eq!(rt; epoch.append(&mut store, less(2))?, 1);
             assert_eq!(rt; epoch.append(&mut store, count(4))?, 2);
-            assert_eq!(rt; number(epoch.append(&mut store, count(4))), 34);
+            assert_eq!(rt;
+                epoch.append(&mut store, count(4)).map_err(Refusal::number),
+                Err(34)
+            );
             let epoch = epoch.close();
             assert_eq!(rt; value(open(&store, epoch.keys(), 0, 3)), Ok(7));
             assert_eq!(rt; value(open(&store, epoch.keys(), 1, 3)), Ok(2));
@@ -68,7 +61,10 @@ mod tests {
         let epoch = Running::new(KeyList { keys: &keys });
         epoch.append(&mut store, count(5))?;
         epoch.append(&mut store, less(2))?;
-        assert_eq!(rt; number(epoch.append(&mut store, count(4))), 31);
+        assert_eq!(rt;
+            epoch.append(&mut store, count(4)).map_err(Refusal::number),
+            Err(31)
+        );
         let ends = KeyPair {
             from: 0,
             before: count(10),
@@ -91,11 +87,20 @@ mod tests {
         let one = Running::new(KeyList { keys: &keys });
         let mut spare = [count(0); 1];
         let mut full = FlatStore::new(&mut spare[0..0]);
-        assert_eq!(rt; number(none.append(&mut full, count(1))), 31);
+        assert_eq!(rt;
+            none.append(&mut full, count(1)).map_err(Refusal::number),
+            Err(31)
+        );
         let mut cells = [count(0); 1];
         let mut store = FlatStore::new(&mut cells);
-        assert_eq!(rt; number(none.append(&mut store, count(1))), 33);
-        assert_eq!(rt; number(one.append(&mut store, count(1))), 34);
+        assert_eq!(rt;
+            none.append(&mut store, count(1)).map_err(Refusal::number),
+            Err(33)
+        );
+        assert_eq!(rt;
+            one.append(&mut store, count(1)).map_err(Refusal::number),
+            Err(34)
+        );
         assert_eq!(rt; store.len(), 0);
     }
 
@@ -103,7 +108,7 @@ mod tests {
     fn flags(rt: HostRuntime) -> Result<(), Fail> {
         let keys = [Flags { bits: 12 }, Flags { bits: 10 }, Flags { bits: 6 }];
         let mut cells = [Flags { bits: 0 }; 2];
-        let sum = two_flags(&keys, &mut cells, Flags { bits: 1 }, Flags { bits: 3 })?;
+        let sum = two_listed(&keys, &mut cells, Flags { bits: 1 }, Flags { bits: 3 })?;
         assert_eq!(rt; sum.bits, 2);
         assert_eq!(rt; cells[0].bits, 7);
         assert_eq!(rt; cells[1].bits, 15);
@@ -114,9 +119,12 @@ mod tests {
     fn parcels(rt: HostRuntime) -> Result<(), Fail> {
         let light = Moments::parcel(3)?;
         let heavy = Moments::parcel(2147483647)?;
-        assert_eq!(rt; number(Moments::parcel(2147483648)), 21);
+        assert_eq!(rt;
+            Moments::parcel(2147483648).err().map(Refusal::number),
+            Some(21)
+        );
         let keys = [Moments::from_words([1, 2, 3]); 3];
-        let sum = two_moments(&keys, &mut [light; 2], light, heavy)?;
+        let sum = two_listed(&keys, &mut [light; 2], light, heavy)?;
         assert_eq!(rt; sum.count, 2);
         assert_eq!(rt; sum.sum, 2147483650);
         assert_eq!(rt; sum.squares, 4611686014132420618);
@@ -128,15 +136,15 @@ mod tests {
         let keys = [count(10), count(3), count(20)];
         let mut cells = [count(0); 2];
         assert_eq!(rt;
-            value(two_counts(&keys, &mut cells, count(5), less(6))),
+            value(two_listed(&keys, &mut cells, count(5), less(6))),
             Ok(less(1).value)
         );
         assert_eq!(rt;
-            value(two_counts(&keys, &mut cells[0..1], count(5), count(6))),
+            value(two_listed(&keys, &mut cells[0..1], count(5), count(6))),
             Err(31)
         );
         assert_eq!(rt;
-            value(two_counts(&keys[0..2], &mut cells, count(5), count(6))),
+            value(two_listed(&keys[0..2], &mut cells, count(5), count(6))),
             Err(34)
         );
     }
