@@ -42,16 +42,13 @@ returns-then-cells-needed c =
       plans = λ p is. absurd (let z : ◌≡◌ {A = ℕ} 0 1 = cc in omega arith);
     }
 
-pub invariant_of-result : goal.invariant_of-result
-invariant_of-result c =
-    let e = climb-cells c.loop-width.invariant.1 c.loop-width-test.false in
+pub invariant_of-shape : goal.invariant_of-shape
+invariant_of-shape c =
     let f = climb_last c.loop-width.invariant.1 c.loop-width-test.false in
-    record {
-      fanned = (c.if-fan_out-lt2.false, c.if-fan_out-gt64.false);
-      sized = (c.if-capacity-lt1.false, c.if-capacity-gt-MAX_CAPACITY.false);
-      levelled = omega arith;
-      counted = e;
-    }
+    record { fanned = (c.if-fan_out-lt2.false, c.if-fan_out-gt64.false); sized = c.if-capacity-gt-MAX_CAPACITY.false; levelled = omega arith }
+
+pub invariant_of-result : goal.invariant_of-result
+invariant_of-result c = record { some = c.if-capacity-lt1.false; counted = climb-cells c.loop-width.invariant.1 c.loop-width-test.false }
 
 pub returns : goal.returns
 returns c =

@@ -2,16 +2,16 @@ use Rattle.std.proofs.Common.{◌≡◌, ◌+◌, ◌-◌, true, false, leb, len
 use borrow.Author.Tests.{lt-leb}
 use Rattle.std.proofs.lemmas.Bool.{false≢true}
 use Rattle.tree_store.specs.Cells.{Entered, raised}
-use Rattle.tree_store.specs.declared.tree.Shape.{Shape}
-use Rattle.tree_store.proofs.Places.{Sound, figures-long}
-use Rattle.tree_store.proofs.Shapes.{stands}
+use Rattle.tree_store.specs.declared.shape.Shape.{Shape}
+use Rattle.tree_store.proofs.Places.{Sound}
+use Rattle.tree_store.proofs.Shapes.{stands, used_long}
 use Rattle.tree_store.proofs.Rising.{sound_put, figures_put, entered}
 use Rattle.tree_store.proofs.tree.calls.TreeStoreStore.put.Goals as goal
 
 pub returns-then-self : goal.returns-then-self
 returns-then-self g c =
     let s = c.args.self.now in
-    let long = figures-long s.shape.fan_out s.shape.capacity s.shape.levels s.used s.cells.now s.shape.levelled s.room s.within in
+    let long = used_long s in
     let full : leb s.shape.capacity (length (take s.used s.cells.now)) ≡ true = le-leb _ _ (omega arith) in
     record { answers = rw full; leaves = refl; spares = λ e. refl; keeps = λ sound. sound; writes = refl; place = refl; shape = refl; enters = λ e. absurd (false≢true e) }
 
@@ -25,9 +25,9 @@ returns g c =
     let k = s.shape.fan_out in
     let most = s.shape.capacity in
     let levels = s.shape.levels in
-    let long = figures-long k most levels s.used s.cells.now s.shape.levelled s.room s.within in
+    let long = used_long s in
     let free : leb most (length (take s.used s.cells.now)) ≡ false = lt-leb _ _ (omega arith) in
-    let numbers = stands s.shape s.used (length s.cells.now) s.room s.within in
+    let numbers = stands s in
     let front = figures_put kind k most levels s.used s.cells.now x numbers c.if-self.false in
     record {
       answers = rw free;
