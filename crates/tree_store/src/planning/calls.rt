@@ -65,6 +65,7 @@ impl Plan {
     }
 
     // How many cells a tree of this plan needs: those of all its levels.
+    #[tactic(auto, using(crate::proofs::Shapes::plan_cells))]
     pub fn cells(&self) -> usize
         ensures is { result ≡ self.now.cells }
         ensures all { result ≡ level_start self.now.shape.fan_out self.now.shape.capacity self.now.shape.levels }

@@ -74,6 +74,7 @@ impl<'a, G: Group> Store<G> for TreeStore<'a, G> {
     }
 
     // Besides what every store says of put: its shape stays, and one cell of each level is written.
+    #[tactic(auto, using(crate::proofs::Shapes::used_long))]
     fn put(&mut self, figure: G) -> Result<(), Refusal>
         ensures answers { result ≡ judged (put_rules (tree self.old)) tt }
         ensures leaves { tree self.new ≡ left_by result (tree self.old) (push (tree self.old) figure) }

@@ -10,6 +10,7 @@ use group::{Group, fold};
 
 impl<'a, G: Group> TreeStore<'a, G> {
     // Enters the next figure in one cell of each level.
+    #[tactic(auto, using(crate::proofs::Shapes::places_room))]
     pub(crate) fn raise(&mut self, figure: G)
         requires { self.old.used < self.old.shape.capacity }
         ensures writes { self.new.cells.now ≡ raised G.Group.kind self.old.shape.fan_out self.old.shape.capacity self.old.used figure self.old.cells.now (self.old.shape.levels - 1) }

@@ -1,4 +1,4 @@
-use Rattle.std.proofs.Common.{List, length, drop, sym, subst, arith}
+use Rattle.std.proofs.Common.{List, sym, subst, arith}
 use Rattle.tree_store.proofs.Climbs.{count_none}
 use Rattle.tree_store.proofs.Places.{Sound}
 use Rattle.tree_store.proofs.Shapes.{plan_cells}

@@ -3,23 +3,11 @@ use Rattle.std.proofs.lemmas.List.{set-set}
 use Rattle.tree_store.specs.Levels.{covering, level_start, level_width}
 use Rattle.tree_store.specs.Cells.{raised}
 use Rattle.tree_store.proofs.Places.{lowest, next_up, up-within, raised_again, raised-more}
-use Rattle.tree_store.proofs.Shapes.{places_room, some_level}
+use Rattle.tree_store.proofs.Shapes.{some_level}
 use Rattle.tree_store.specs.declared.shape.Shape.{Shape}
 use Rattle.tree_store.proofs.tree.TreeStore.raise.Given as given
 use Rattle.tree_store.proofs.tree.TreeStore.raise.Goals as goal
 use Rattle.tree_store.proofs.tree.TreeStore.raise.Goals.{In-loop-below}
-
-pub offset_bounds-self-number : goal.offset_bounds-self-number
-offset_bounds-self-number g c =
-    let s = c.args.self.now in
-    let b = places_room s in
-    let h : s.used < length s.cells.now = omega arith in search rules
-
-pub bounds-self-number : goal.bounds-self-number
-bounds-self-number g c =
-    let s = c.args.self.now in
-    let b = places_room s in
-    omega arith
 
 pub overflow_sub-below-end : goal.overflow_sub-below-end
 overflow_sub-below-end g c = some_level c.args.self.now
