@@ -2,14 +2,18 @@
 #![tactic(auto)]
 
 ghost use Rattle.std.specs.Prelude.{◌≡◌, ◌%◌, ◌^◌, min, length, take};
+ghost use Rattle.refusal.specs.Judged.{judged};
+ghost use Rattle.tree_store.specs.Plans.{plan_rules};
 ghost use Rattle.tree_clients.specs.Puts.{filled};
 ghost use Rattle.bench_totals.specs.Rounds.{span_sum, rounds_sum, planned_sum};
 
 use group::Count;
+use refusal::Refusal;
 use store::{FlatStore, Store};
 use tree_store::{Plan, TreeStore};
 
-// Puts the figures, one after another; those that find the store full are refused.
+// Puts the figures, one after another; those that find the store full are refused. Of a tree, `tree_clients` has one that tells
+// its cells too, which no promise of every store does.
 fn put_all<S: Store<Count>>(store: &mut S, figures: &[Count])
     ensures leaves { S.Store.contents store.new ≡ filled (S.Store.contents store.old) figures.now }
     ensures keeps { S.Store.sound store.old → S.Store.sound store.new }
@@ -19,14 +23,11 @@ fn put_all<S: Store<Count>>(store: &mut S, figures: &[Count])
     }
 }
 
-// The sum of the figures from number `from` on, or 0 where there are not so many.
+// The sum of the figures from number `from` on, or 0 where there are not so many: what is added up for C is a number.
 fn span<S: Store<Count>>(store: &S, from: usize) -> u64
     ensures { S.Store.sound store.now → result % 2 ^ 64 ≡ span_sum (S.Store.contents store.now).entries from }
 {
-    match store.total(from, store.len()) {
-        Ok(x) => x.value,
-        Err(_) => 0,
-    }
+    store.total(from, store.len()).map_or(0, |sum| sum.value)
 }
 
 // The sums of the figures from 0, 1, .. 7 on, in turn, added up. They differ from round to round, so that a compiler cannot
@@ -51,7 +52,22 @@ pub extern "C" fn totals_flat(cells: &mut [Count], figures: &[Count], rounds: us
     rounds_of(&store, rounds)
 }
 
-// On a tree store over the cells, with a place for each figure; 0 where such a plan is refused.
+// On a tree store over the cells, with a place for each figure.
+fn totals_planned(
+    fan_out: usize,
+    cells: &mut [Count],
+    figures: &[Count],
+    rounds: usize,
+) -> Result<u64, Refusal>
+    ensures { result ≡ judged (plan_rules fan_out (length figures.now) (length cells.old)) (rounds_sum figures.now rounds) }
+{
+    let plan = Plan::new(fan_out, figures.len(), cells.len())?;
+    let mut store = TreeStore::new(plan, cells);
+    put_all(&mut store, figures);
+    Ok(rounds_of(&store, rounds))
+}
+
+// The same for C, which is told 0 where such a plan is refused.
 #[unsafe(no_mangle)]
 pub extern "C" fn totals_tree(
     fan_out: usize,
@@ -61,10 +77,5 @@ pub extern "C" fn totals_tree(
 ) -> u64
     ensures { result ≡ planned_sum fan_out (length cells.old) figures.now rounds }
 {
-    let Ok(plan) = Plan::new(fan_out, figures.len(), cells.len()) else {
-        return 0;
-    };
-    let mut store = TreeStore::new(plan, cells);
-    put_all(&mut store, figures);
-    rounds_of(&store, rounds)
+    totals_planned(fan_out, cells, figures, rounds).unwrap_or(0)
 }

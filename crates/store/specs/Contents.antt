@@ -29,6 +29,10 @@ push c x = record { entries = c.entries ++ (x ∷ []); capacity = c.capacity }
 abbrev pub put_rules : {G : Type 0} → Contents G → Rules
 put_rules c = (nat_le c.capacity (length c.entries), Full) ∷ []
 
--- When total of a up to b refuses: by 1 when a > b, by 32 when b is beyond the length.
+-- When figures a up to b of so many are refused: by 1 when a > b, by 32 when b is beyond the last.
+abbrev pub span_rules : ℕ → ℕ → ℕ → Rules
+span_rules count a b = (nat_lt b a, Reversed) ∷ (nat_lt count b, Beyond) ∷ []
+
+-- When total of a up to b refuses.
 abbrev pub total_rules : {G : Type 0} → Contents G → ℕ → ℕ → Rules
-total_rules c a b = (nat_lt b a, Reversed) ∷ (nat_lt (length c.entries) b, Beyond) ∷ []
+total_rules c a b = span_rules (length c.entries) a b

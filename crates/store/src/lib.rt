@@ -5,7 +5,7 @@ ghost use Rattle.std.specs.Borrow.{GName};
 ghost use Rattle.std.specs.Prelude.{◌≡◌, ◌≤◌, false, List, length, is_ok, Ok};
 ghost use Rattle.refusal.specs.Judged.{judged, first, refusal, left_by};
 ghost use Rattle.group.specs.Kind.{sum};
-ghost use Rattle.store.specs.Contents.{Contents, nth, push, between, put_rules, total_rules};
+ghost use Rattle.store.specs.Contents.{Contents, nth, push, between, put_rules, span_rules, total_rules};
 
 mod flat;
 
@@ -13,7 +13,8 @@ pub use flat::FlatStore;
 use group::Group;
 use refusal::Refusal;
 
-pub(crate) const MAX_CAPACITY: usize = 1048576;
+// The most figures that any store may hold.
+pub const MAX_CAPACITY: usize = 1048576;
 
 // A list of figures that grows at its end, up to a capacity that never changes.
 pub trait Store<G: Group> {
@@ -54,4 +55,17 @@ pub trait Store<G: Group> {
     fn total(&self, a: usize, b: usize) -> Result<G, Refusal>
         ensures refuses { refusal result ≡ first (total_rules (contents self.now) a b) }
         ensures figure { sound self.now → (x : G) → result ≡ Ok x → G.Group.kind.value x ≡ sum G.Group.kind (between a b (contents self.now).entries) };
+}
+
+// Whether a to b - 1 are numbers of figures, of as many as there are.
+pub fn check_span(len: usize, a: usize, b: usize) -> Result<(), Refusal>
+    ensures { result ≡ judged (span_rules len a b) tt }
+{
+    if a > b {
+        return Err(Refusal::Reversed);
+    }
+    if b > len {
+        return Err(Refusal::Beyond);
+    }
+    Ok(())
 }

@@ -11,7 +11,7 @@ use Rattle.tree_store.specs.Trees.{begun}
 use Rattle.tree_store.specs.declared.planning.Plan.{Plan}
 
 module _ (p : Plan) where
-  pub enough : (count : ℕ) → p.cells ≤ count → places p count ≡ p.capacity
+  pub enough : (count : ℕ) → p.cells ≤ count → places p count ≡ p.shape.capacity
   enough count h = cond-false _ _ _ (le-ltb count p.cells h)
 
   pub short : (count : ℕ) → count < p.cells → places p count ≡ 0
@@ -24,7 +24,7 @@ module _ (p : Plan) where
   begun-short none cells h = cond-true _ _ _ (lt-ltb (length cells) p.cells h)
 
 -- Two places in a tree are enough cells for the plan and a capacity of two.
-pub two_answered : {G V : Type 0} (k : Kind G V) (keys : Keys G) (p : Plan) (count : ℕ) {x y : G} {r : Result G Refusal} → SumOfTwo k keys (places p count) x y r → (is_ok r ≡ true) ↔ ((p.cells ≤ count) × (2 ≤ p.capacity) × Has keys 0 × Has keys 1 × Has keys 2)
+pub two_answered : {G V : Type 0} (k : Kind G V) (keys : Keys G) (p : Plan) (count : ℕ) {x y : G} {r : Result G Refusal} → SumOfTwo k keys (places p count) x y r → (is_ok r ≡ true) ↔ ((p.cells ≤ count) × (2 ≤ p.shape.capacity) × Has keys 0 × Has keys 1 × Has keys 2)
 two_answered k keys p count s = (
   λ ok.
       let h = s.answered.0 ok in

@@ -1,5 +1,6 @@
 -- Puts into a tree, one after another. Assumes nothing.
 use Rattle.std.proofs.Common.{◌≡◌, ℕ, zero, suc, ◌+◌, ◌-◌, ◌<◌, ◌≤◌, min, false, List, [], ◌∷◌, ◌++◌, length, get_or, take, drop, replicate, is_ok, Ok, Err, Result, sym, refl, ap, ◌∙◌, subst, ⊎_elim, arith, length-take}
+use Rattle.std.proofs.Math.Seq.{take-nil}
 use Rattle.std.proofs.lemmas.List.{append-nil, append_assoc, take_all, take_more, take-append-le, drop_at, length_push, length-append, length-replicate}
 use Rattle.std.proofs.lemmas.Bool.{le-leb, lt-leb, cond-true, cond-false, cases_lt}
 use Rattle.refusal.specs.Judged.{judged, left_by}
@@ -10,12 +11,10 @@ use Rattle.store.specs.Contents.{Contents, push, put_rules}
 use Rattle.tree_store.specs.Levels.{level_start}
 use Rattle.tree_store.specs.Cells.{Entered, Holds, cleared}
 use Rattle.tree_store.specs.Trees.{tree, Summed, with_figure}
-use Rattle.tree_store.specs.declared.planning.Plan.{Plan}
-use Rattle.tree_store.specs.declared.tree.Shape.{Shape}
+use Rattle.tree_store.specs.declared.shape.Shape.{Shape}
 use Rattle.tree_store.specs.declared.tree.TreeStore.{TreeStore}
-use Rattle.tree_store.proofs.Places.{levels_some}
 use Rattle.tree_store.proofs.Rising.{raised-beyond}
-use Rattle.tree_store.proofs.Shapes.{plan_cells, same_levels}
+use Rattle.tree_store.proofs.Shapes.{some_level}
 use Rattle.tree_clients.specs.Puts.{filled, top}
 
 -- a put is accepted while there is a place, and refused after
@@ -26,26 +25,8 @@ module _ {G R : Type 0} (c : Contents G) (x : R) (r : Result R Refusal) (answers
   pub put_full : c.capacity ≤ length c.entries → r ≡ Err Full
   put_full h = answers ∙ cond-true _ _ _ (le-leb c.capacity (length c.entries) h)
 
--- what is said of a shape, said of the plan that it is of
-pub entered_by : {G V : Type 0} (kind : Kind G V) (p : Plan) (s : Shape) {n m : ℕ} (x : G) {before before' after after' : List G} → s.fan_out ≡ p.fan_out → s.capacity ≡ p.capacity → n ≡ m → before ≡ before' → after ≡ after' → Entered kind s.fan_out s.capacity s.levels n x before after → Entered kind p.fan_out p.capacity p.levels m x before' after'
-entered_by {G} kind p s x fan most at b a e =
-    subst (λ (t : ℕ × ℕ × ℕ × ℕ × List G × List G). Entered kind t.0 t.1 t.2 t.3 x t.4 t.5) (λ i. (fan i, most i, same_levels p s fan most i, at i, b i, a i)) e
-
--- from this tree to that, by putting the figures
-pub record Filling {G V : Type 0} (kind : Kind G V) (start : TreeStore G) (figures : List G) (s : TreeStore G) : Type 0 where
-  pub leaves : tree s ≡ filled (tree start) figures
-  pub keeps : Summed kind start → Summed kind s
-  pub shape : s.shape ≡ start.shape
-  pub place : s.cells.ghost_name ≡ start.cells.ghost_name
-  pub beyond : drop (top start.shape) s.cells.now ≡ drop (top start.shape) start.cells.now
-  pub spares : (tree start).capacity ≡ 0 → s.cells.now ≡ start.cells.now
-
-take_none : {G : Type 0} (n : ℕ) → ◌≡◌ {A = List G} (take n []) []
-take_none zero = refl
-take_none (suc n) = refl
-
 pub filled_none : {G : Type 0} (c : Contents G) → c ≡ filled c []
-filled_none c = λ i. record { entries = (sym (append-nil c.entries) ∙ ap (λ xs. c.entries ++ xs) (sym (take_none (c.capacity - length c.entries)))) i; capacity = c.capacity }
+filled_none c = λ i. record { entries = (sym (append-nil c.entries) ∙ ap (λ xs. c.entries ++ xs) (sym (take-nil (c.capacity - length c.entries)))) i; capacity = c.capacity }
 
 -- one figure more, where there is a place and where there is none
 pub filled-free : {G : Type 0} (c : Contents G) (xs : List G) (x : G) → length (filled c xs).entries < c.capacity → push (filled c xs) x ≡ filled c (xs ++ (x ∷ []))
@@ -66,6 +47,37 @@ filled-full c xs x h =
     let over : m ≤ length xs = omega arith in
     λ i. record { entries = c.entries ++ sym (take-append-le m xs (x ∷ []) over) i; capacity = c.capacity }
 
+-- the next of a row of figures is put
+module _ {G R : Type 0} (unit : R) (c s t : Contents G) (x : G) (r : Result R Refusal) (answers : r ≡ judged (put_rules s) unit) (leaves : t ≡ left_by r s (push s x)) where
+  put_more : (xs : List G) → s ≡ filled c xs → t ≡ filled c (xs ++ (x ∷ []))
+  put_more xs is =
+      let most = ap (λ a. a.capacity) is in
+      let long = ap (λ a. length a.entries) is in
+      ⊎_elim
+      (λ (h : length s.entries < s.capacity).
+      leaves ∙ ap (λ q. left_by q s (push s x)) (put_free s unit r answers h) ∙ ap (λ a. push a x) is ∙ filled-free c xs x (omega (arith, h, most, long)))
+      (λ (h : s.capacity ≤ length s.entries).
+      leaves ∙ ap (λ q. left_by q s (push s x)) (put_full s unit r answers h) ∙ is ∙ filled-full c xs x (omega (arith, h, most, long)))
+      (cases_lt (length s.entries) s.capacity)
+
+  pub put_next : (figures : List G) (i : ℕ) → s ≡ filled c (take i figures) → i < length figures → x ≡ get_or figures i x → t ≡ filled c (take (i + 1) figures)
+  put_next figures i is low read =
+      put_more (take i figures) is ∙ ap (filled c) (sym (take_more figures i x low ∙ (λ j. take i figures ++ (sym read j ∷ []))))
+
+-- what is said of one shape, said of the same
+pub entered_by : {G V : Type 0} (kind : Kind G V) {s t : Shape} {n m : ℕ} (x : G) {before before' after : List G} → s ≡ t → n ≡ m → before ≡ before' → Entered kind s.fan_out s.capacity s.levels n x before after → Entered kind t.fan_out t.capacity t.levels m x before' after
+entered_by {G} kind x {after = after} shape at b e =
+    subst (λ (t : Shape × ℕ × List G). Entered kind t.0.fan_out t.0.capacity t.0.levels t.1 x t.2 after) (λ i. (shape i, at i, b i)) e
+
+-- from this tree to that, by putting the figures
+pub record Filling {G V : Type 0} (kind : Kind G V) (start : TreeStore G) (figures : List G) (s : TreeStore G) : Type 0 where
+  pub leaves : tree s ≡ filled (tree start) figures
+  pub keeps : Summed kind start → Summed kind s
+  pub shape : s.shape ≡ start.shape
+  pub place : s.cells.ghost_name ≡ start.cells.ghost_name
+  pub beyond : drop (top start.shape) s.cells.now ≡ drop (top start.shape) start.cells.now
+  pub spares : (tree start).capacity ≡ 0 → s.cells.now ≡ start.cells.now
+
 module _ {G V : Type 0} (kind : Kind G V) where
   pub filling-none : (s : TreeStore G) → Filling kind s [] s
   filling-none s = record { leaves = filled_none (tree s); keeps = λ sound. sound; shape = refl; place = refl; beyond = refl; spares = λ e. refl }
@@ -73,7 +85,7 @@ module _ {G V : Type 0} (kind : Kind G V) where
   -- past the cells of all levels a put changes nothing
   put_beyond : (s : TreeStore G) (x : G) → length (tree s).entries < (tree s).capacity → drop (top s.shape) (with_figure kind s x) ≡ drop (top s.shape) s.cells.now
   put_beyond s x h =
-      let some = levels_some s.shape.fan_out s.shape.capacity s.shape.levels s.shape.levelled in
+      let some = some_level s in
       let all : suc (s.shape.levels - 1) ≡ s.shape.levels = omega arith in
       raised-beyond kind s.shape.fan_out s.shape.capacity (length (tree s).entries) x (omega (arith, s.shape.fanned.0)) h s.cells.now (top s.shape) (s.shape.levels - 1)
       (subst (λ m. level_start s.shape.fan_out s.shape.capacity m ≤ top s.shape) (sym all) (omega arith))
@@ -85,12 +97,10 @@ module _ {G V : Type 0} (kind : Kind G V) where
     free : length (tree s).entries < (tree s).capacity → Filling kind start (xs ++ (x ∷ [])) t
     free h =
         let ok = put_free (tree s) unit r answers h in
-        let taken : tree t ≡ push (tree s) x = leaves ∙ ap (λ q. left_by q (tree s) (push (tree s) x)) ok in
         let held : t.cells.now ≡ with_figure kind s x = writes ∙ ap (λ q. left_by q s.cells.now (with_figure kind s x)) ok in
         let ends : top s.shape ≡ top start.shape = ap top f.shape in
-        let there : length (filled (tree start) xs).entries < (tree start).capacity = omega (arith, h, same_capacity, ap (λ c. length c.entries) f.leaves) in
         record {
-          leaves = taken ∙ ap (λ c. push c x) f.leaves ∙ filled-free (tree start) xs x there;
+          leaves = put_more unit (tree start) (tree s) (tree t) x r answers leaves xs f.leaves;
           keeps = λ sound. keeps (f.keeps sound);
           shape = shape ∙ f.shape;
           place = place ∙ f.place;
@@ -101,9 +111,9 @@ module _ {G V : Type 0} (kind : Kind G V) where
     full : (tree s).capacity ≤ length (tree s).entries → Filling kind start (xs ++ (x ∷ [])) t
     full h =
         let same : t ≡ s = spares (ap is_ok (put_full (tree s) unit r answers h)) in
-        let over : (tree start).capacity ≤ length (filled (tree start) xs).entries = omega (arith, h, same_capacity, ap (λ c. length c.entries) f.leaves) in
+        let long = ap (λ c. length c.entries) f.leaves in
         subst (Filling kind start (xs ++ (x ∷ []))) (sym same)
-        (record { leaves = f.leaves ∙ filled-full (tree start) xs x over; keeps = f.keeps; shape = f.shape; place = f.place; beyond = f.beyond; spares = f.spares })
+        (record { leaves = f.leaves ∙ filled-full (tree start) xs x (omega (arith, h, same_capacity, long)); keeps = f.keeps; shape = f.shape; place = f.place; beyond = f.beyond; spares = f.spares })
 
     filling-more : Filling kind start (xs ++ (x ∷ [])) t
     filling-more = ⊎_elim free full (cases_lt (length (tree s).entries) (tree s).capacity)
@@ -113,21 +123,10 @@ module _ {G V : Type 0} (kind : Kind G V) where
     filling-next figures i is low read =
         subst (λ (ys : List G). Filling kind start ys t) (sym (take_more figures i x low ∙ (λ j. sym is j ++ (sym read j ∷ [])))) filling-more
 
--- what a sound tree holds, said of the plan that it is of
-pub holds_by : {G V : Type 0} (kind : Kind G V) (p : Plan) (s : TreeStore G) {row cells : List G} → s.shape.fan_out ≡ p.fan_out → s.shape.capacity ≡ p.capacity → (tree s).entries ≡ row → s.cells.now ≡ cells → Summed kind s → Holds kind p.fan_out p.capacity p.levels row cells
-holds_by {G} kind p s fan most row cells sound =
-    subst (λ (t : ℕ × ℕ × ℕ × List G × List G). Holds kind t.0 t.1 t.2 t.3 t.4) (λ i. (fan i, most i, same_levels p s.shape fan most i, row i, cells i)) sound
-
--- the cells of a plan's tree end where the plan's cells do
-pub top_is : (p : Plan) (s : Shape) → s.fan_out ≡ p.fan_out → s.capacity ≡ p.capacity → top s ≡ p.cells
-top_is p s fan most = (λ i. level_start (fan i) (most i) (same_levels p s fan most i)) ∙ sym (plan_cells p)
+-- what a sound tree holds, said of the same shape, figures and cells
+pub holds_by : {G V : Type 0} (kind : Kind G V) (s : TreeStore G) {shape : Shape} {row : List G} → s.shape ≡ shape → (tree s).entries ≡ row → Summed kind s → Holds kind shape.fan_out shape.capacity shape.levels row s.cells.now
+holds_by {G} kind s shape row sound =
+    subst (λ (t : Shape × List G). Holds kind t.0.fan_out t.0.capacity t.0.levels t.1 s.cells.now) (λ i. (shape i, row i)) sound
 
 pub cleared-beyond : {G : Type 0} (none : G) (count : ℕ) (cells : List G) → drop count (cleared none count cells) ≡ drop count cells
 cleared-beyond none count cells = drop_at (replicate count none) (drop count cells) count (length-replicate count none)
-
-pub take_min : {G : Type 0} (m : ℕ) (xs : List G) → take m xs ≡ take (min m (length xs)) xs
-take_min m xs =
-    ⊎_elim
-    (λ (low : m < length xs). let e : m ≡ min m (length xs) = omega arith in ap (λ n. take n xs) e)
-    (λ (high : length xs ≤ m). take_all m xs high ∙ sym (take_all (min m (length xs)) xs (omega arith)))
-    (cases_lt m (length xs))

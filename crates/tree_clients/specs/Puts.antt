@@ -2,7 +2,7 @@
 use Rattle.std.specs.Prelude.{ℕ, ◌-◌, List, ◌++◌, length, take}
 use Rattle.store.specs.Contents.{Contents}
 use Rattle.tree_store.specs.Levels.{level_start}
-use Rattle.tree_store.specs.declared.tree.Shape.{Shape}
+use Rattle.tree_store.specs.declared.shape.Shape.{Shape}
 
 -- The figures are taken in order, as far as there are places.
 abbrev pub filled : {G : Type 0} → Contents G → List G → Contents G

@@ -11,8 +11,8 @@ use tree_store::{Plan, TreeStore};
 
 // Puts two figures into a new tree.
 pub fn two_puts<G: Group>(plan: Plan, cells: &mut [G], x: G, y: G)
-    ensures both { plan.cells ≤ length cells.old → 2 ≤ plan.capacity → (between : List G) × Entered G.Group.kind plan.fan_out plan.capacity plan.levels 0 x (cleared G.Group.kind.zero plan.cells cells.old) between × Entered G.Group.kind plan.fan_out plan.capacity plan.levels 1 y between cells.new }
-    ensures one { plan.cells ≤ length cells.old → plan.capacity ≡ 1 → Entered G.Group.kind plan.fan_out plan.capacity plan.levels 0 x (cleared G.Group.kind.zero plan.cells cells.old) cells.new }
+    ensures both { plan.cells ≤ length cells.old → 2 ≤ plan.shape.capacity → (between : List G) × Entered G.Group.kind plan.shape.fan_out plan.shape.capacity plan.shape.levels 0 x (cleared G.Group.kind.zero plan.cells cells.old) between × Entered G.Group.kind plan.shape.fan_out plan.shape.capacity plan.shape.levels 1 y between cells.new }
+    ensures one { plan.cells ≤ length cells.old → plan.shape.capacity ≡ 1 → Entered G.Group.kind plan.shape.fan_out plan.shape.capacity plan.shape.levels 0 x (cleared G.Group.kind.zero plan.cells cells.old) cells.new }
     ensures spares { length cells.old < plan.cells → cells.new ≡ cells.old }
 {
     let mut store = TreeStore::new(plan, cells);
@@ -20,7 +20,8 @@ pub fn two_puts<G: Group>(plan: Plan, cells: &mut [G], x: G, y: G)
     let _ = store.put(y);
 }
 
-// Puts the figures, one after another; those that find the tree full are refused.
+// Puts the figures, one after another; those that find the tree full are refused. What a tree keeps besides is no promise of
+// every store, so this stands beside the one that puts into any store.
 fn put_all<'a, G: Group>(store: &mut TreeStore<'a, G>, figures: &[G])
     ensures leaves { tree store.new ≡ filled (tree store.old) figures.now }
     ensures keeps { Summed G.Group.kind store.old → Summed G.Group.kind store.new }
@@ -37,7 +38,7 @@ fn put_all<'a, G: Group>(store: &mut TreeStore<'a, G>, figures: &[G])
 // Puts the figures into a new tree, and answers how many it took.
 pub fn fill<G: Group>(plan: Plan, cells: &mut [G], figures: &[G]) -> usize
     ensures count { result ≡ min (places plan (length cells.old)) (length figures.now) }
-    ensures holds { plan.cells ≤ length cells.old → Holds G.Group.kind plan.fan_out plan.capacity plan.levels (take result figures.now) cells.new }
+    ensures holds { plan.cells ≤ length cells.old → Holds G.Group.kind plan.shape.fan_out plan.shape.capacity plan.shape.levels (take result figures.now) cells.new }
     ensures beyond { drop plan.cells cells.new ≡ drop plan.cells cells.old }
     ensures spares { length cells.old < plan.cells → cells.new ≡ cells.old }
 {

@@ -19,7 +19,7 @@ pub fn two_tree<G: Group, K: KeySource<G> + Drop>(
     y: G,
 ) -> Result<G, Refusal>
     ensures sums { SumOfTwo G.Group.kind (K.KeySource.keys source) (places plan (length cells.old)) x y result }
-    ensures answered { (is_ok result ≡ true) ↔ ((plan.cells ≤ length cells.old) × (2 ≤ plan.capacity) × Has (K.KeySource.keys source) 0 × Has (K.KeySource.keys source) 1 × Has (K.KeySource.keys source) 2) }
+    ensures answered { (is_ok result ≡ true) ↔ ((plan.cells ≤ length cells.old) × (2 ≤ plan.shape.capacity) × Has (K.KeySource.keys source) 0 × Has (K.KeySource.keys source) 1 × Has (K.KeySource.keys source) 2) }
     ensures spares { length cells.old < plan.cells → cells.new ≡ cells.old }
 {
     let mut store = TreeStore::new(plan, cells);

@@ -1,13 +1,15 @@
 -- New trees. Assumes nothing.
-use Rattle.std.proofs.Common.{◌≡◌, ℕ, ◌+◌, ◌*◌, ◌^◌, ◌<◌, ◌≤◌, List, [], ◌∷◌, ◌++◌, length, get_or, drop, set, replicate, sym, ap, ◌∙◌, arith, length-append, length-drop}
+use Rattle.std.proofs.Common.{◌≡◌, ℕ, ◌+◌, ◌*◌, ◌^◌, ◌<◌, ◌≤◌, List, [], ◌∷◌, ◌++◌, length, get_or, take, drop, set, replicate, sym, ap, ◌∙◌, arith, length-append, length-drop}
 use lib.ListN.{length-replicate}
-use Rattle.std.proofs.lemmas.List.{get_or_append_left, get_or-replicate, set_at, drop_more, replicate_more, append_assoc}
+use Rattle.std.proofs.lemmas.List.{get_or_append_left, get_or-replicate, set_at, length-take-le, drop_more, replicate_more, append_assoc}
 use Rattle.group.specs.Kind.{Kind, sum}
-use Rattle.tree_store.specs.Levels.{level_start, level_count, cells_needed}
+use Rattle.tree_store.specs.Levels.{level_start}
 use Rattle.tree_store.specs.Cells.{cleared}
+use Rattle.tree_store.specs.declared.planning.Plan.{Plan}
 use Rattle.tree_store.proofs.Widths.{ends-before, width_most}
 use Rattle.tree_store.proofs.Parts.{between-beyond}
 use Rattle.tree_store.proofs.Places.{Sound}
+use Rattle.tree_store.proofs.Shapes.{plan_cells}
 
 -- one more cell is cleared
 pub cleared_more : {G : Type 0} (none : G) (cells now : List G) (i : ℕ) (x : G) → i < length cells → now ≡ cleared none i cells → x ≡ none → set now i x ≡ cleared none (i + 1) cells
@@ -26,18 +28,20 @@ cleared-long none count cells h =
     let back = length-drop count cells in
     omega arith
 
+-- where the first cells are all cleared
+pub cleared_front : {G : Type 0} (none : G) (count : ℕ) (cells front : List G) → count ≤ length cells → front ≡ replicate (length (take count cells)) none → front ++ drop count cells ≡ cleared none count cells
+cleared_front none count cells front h is = ap (λ (f : List _). f ++ drop count cells) (is ∙ ap (λ n. replicate n none) (length-take-le count cells h))
+
 -- a tree of a plan, with every cell cleared
-pub sound_new : {G V : Type 0} (kind : Kind G V) (k most : ℕ) (cells : List G) → Sound kind k most (level_count k most) 0 (cleared kind.zero (cells_needed k most) cells)
-unfolding cells_needed
-sound_new kind k most cells l j low col =
+pub sound_new : {G V : Type 0} (kind : Kind G V) (p : Plan) (cells : List G) → Sound kind p.shape.fan_out p.shape.capacity p.shape.levels 0 (cleared kind.zero p.cells cells)
+sound_new kind p cells l j low col =
     let none = kind.zero in
-    let count = level_start k most (level_count k most) in
-    let front = length-replicate count none in
-    let ends = ends-before k most l (level_count k most) low in
-    let p = level_start k most l + j in
-    let inside : p < count = omega arith in
-    ap kind.value (get_or_append_left (replicate count none) (drop count cells) none p (omega arith) ∙ get_or-replicate count p none none inside)
-    ∙ kind.zero_counts ∙ sym (ap (sum kind) (between-beyond (j * k ^ l) ((j + 1) * k ^ l) [] (omega arith)))
+    let front = length-replicate p.cells none in
+    let ends = ends-before p.shape.fan_out p.shape.capacity l p.shape.levels low in
+    let at = level_start p.shape.fan_out p.shape.capacity l + j in
+    let inside : at < p.cells = omega (arith, plan_cells p) in
+    ap kind.value (get_or_append_left (replicate p.cells none) (drop p.cells cells) none at (omega arith) ∙ get_or-replicate p.cells at none none inside)
+    ∙ kind.zero_counts ∙ sym (ap (sum kind) (between-beyond (j * p.shape.fan_out ^ l) ((j + 1) * p.shape.fan_out ^ l) [] (omega arith)))
 
 -- a tree with no place for a figure
 pub sound_none : {G V : Type 0} (kind : Kind G V) (k : ℕ) (cells : List G) → 2 ≤ k → Sound kind k 0 1 0 cells

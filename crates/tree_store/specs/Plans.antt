@@ -12,8 +12,8 @@ plan_rules k n cells = (nat_lt k 2 || nat_lt 64 k, FanOut) ∷ (nat_lt n 1 || na
 
 -- A plan's fan-out, its capacity and the cells that it needs.
 abbrev pub figures : Plan → ℕ × ℕ × ℕ
-figures p = (p.fan_out, p.capacity, p.cells)
+figures p = (p.shape.fan_out, p.shape.capacity, p.cells)
 
 -- How many figures a tree of the plan takes over so many cells: none where they are too few.
 abbrev pub places : Plan → ℕ → ℕ
-places p count = cond (nat_lt count p.cells) 0 p.capacity
+places p count = cond (nat_lt count p.cells) 0 p.shape.capacity

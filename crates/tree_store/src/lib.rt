@@ -2,6 +2,7 @@
 #![tactic(auto)]
 
 mod planning;
+mod shape;
 mod tree;
 
 pub use planning::Plan;

@@ -1,18 +1,16 @@
 // How many cells a tree of sums needs.
 ghost use Rattle.std.specs.Prelude.{◌≡◌, ◌≤◌};
-ghost use Rattle.tree_store.specs.Levels.{level_count, cells_needed};
+ghost use Rattle.tree_store.specs.Levels.{cells_needed};
 
 mod calls;
 
-// A tree's fan-out and capacity, with its levels and the cells that it needs.
+use crate::shape::Shape;
+
+// A tree's shape, and the cells that it needs. It has a place for a figure.
 #[derive(Clone, Copy)]
 pub struct Plan {
-    fan_out: usize,
-    capacity: usize,
-    levels: usize,
-    cells: usize,
-    ghost fanned: { (2 ≤ fan_out) × (fan_out ≤ 64) },
-    ghost sized: { (1 ≤ capacity) × (capacity ≤ 1048576) },
-    ghost levelled: { levels ≡ level_count fan_out capacity },
-    ghost counted: { cells ≡ cells_needed fan_out capacity },
+    pub(crate) shape: Shape,
+    pub(crate) cells: usize,
+    ghost some: { 1 ≤ shape.capacity },
+    ghost counted: { cells ≡ cells_needed shape.fan_out shape.capacity },
 }

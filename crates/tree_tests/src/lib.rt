@@ -15,26 +15,15 @@ mod tests {
         Count { value }
     }
 
-    fn number<T: Drop>(r: Result<T, Refusal>) -> u32 {
-        match r {
-            Ok(_) => 0,
-            Err(e) => e.number(),
-        }
-    }
-
-    fn counted(r: Result<Count, Refusal>) -> Result<u64, u32> {
-        match r {
-            Ok(x) => Ok(x.value),
-            Err(e) => Err(e.number()),
-        }
+    fn counted(sum: Result<Count, Refusal>) -> Result<u64, u32> {
+        sum.map(|x| x.value).map_err(Refusal::number)
     }
 
     // How many cells a plan needs, or why it is refused.
     fn needed(fan_out: usize, capacity: usize, cells: usize) -> Result<usize, u32> {
-        match Plan::new(fan_out, capacity, cells) {
-            Ok(plan) => Ok(plan.cells()),
-            Err(e) => Err(e.number()),
-        }
+        Plan::new(fan_out, capacity, cells)
+            .map(|plan| plan.cells())
+            .map_err(Refusal::number)
     }
 
     #[test]
@@ -67,9 +56,9 @@ mod tests {
         {
             let mut store = TreeStore::new(plan, &mut cells);
             for i in 1..11 {
-                assert_eq!(rt; number(store.put(count(i))), 0);
+                assert_eq!(rt; store.put(count(i)).map_err(Refusal::number), Ok(()));
             }
-            assert_eq!(rt; number(store.put(count(11))), 31);
+            assert_eq!(rt; store.put(count(11)).map_err(Refusal::number), Err(31));
             assert_eq!(rt; store.len(), 10);
             for a in 0..11 {
                 for b in a..11 {
@@ -98,7 +87,7 @@ mod tests {
         {
             let mut store = TreeStore::new(plan, &mut cells);
             assert_eq!(rt; store.capacity(), 0);
-            assert_eq!(rt; number(store.put(count(1))), 31);
+            assert_eq!(rt; store.put(count(1)).map_err(Refusal::number), Err(31));
             assert_eq!(rt; counted(store.total(0, 0)), Ok(0));
         }
         assert_eq!(rt; cells[0].value, 7);

@@ -1,7 +1,6 @@
 use Rattle.std.proofs.Common.{ap, ◌∙◌, arith, take_all, rules}
 use Rattle.tree_clients.specs.Puts.{filled}
-use Rattle.tree_clients.proofs.Putting.{filled_none}
-use Rattle.bench_totals.proofs.Rounding.{put_next}
+use Rattle.tree_clients.proofs.Putting.{filled_none, put_next}
 use Rattle.bench_totals.proofs.put_all.Goals as goal
 
 pub loop-figure-init : goal.loop-figure-init

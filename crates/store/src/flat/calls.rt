@@ -4,7 +4,7 @@ ghost use Rattle.store.specs.Contents.{empty};
 ghost use Rattle.store.specs.Flat.{flat};
 
 use super::FlatStore;
-use crate::{MAX_CAPACITY, Store};
+use crate::{MAX_CAPACITY, Store, check_span};
 use group::{Group, fold};
 use refusal::Refusal;
 
@@ -50,17 +50,11 @@ impl<'a, G: Group> Store<G> for FlatStore<'a, G> {
     }
 
     fn get(&self, i: usize) -> Option<G> {
-        let used = &self.cells[0..self.used];
-        if i < used.len() { Some(used[i]) } else { None }
+        self.cells[..self.used].get(i).copied()
     }
 
     fn total(&self, a: usize, b: usize) -> Result<G, Refusal> {
-        if a > b {
-            return Err(Refusal::Reversed);
-        }
-        if b > self.used {
-            return Err(Refusal::Beyond);
-        }
+        check_span(self.used, a, b)?;
         Ok(fold(&self.cells[a..b]))
     }
 }

@@ -6,9 +6,9 @@ ghost use Rattle.tree_store.specs.Plans.{plan_rules, figures};
 ghost use Rattle.tree_store.specs.declared.planning.Plan.{Plan};
 
 use super::Plan;
+use crate::shape::Shape;
 use refusal::Refusal;
-
-const MAX_CAPACITY: usize = 1048576;
+use store::MAX_CAPACITY;
 
 impl Plan {
     // A plan for a tree over so many cells.
@@ -33,38 +33,42 @@ impl Plan {
         if cells < needed {
             return Err(Refusal::TooFewCells);
         }
-        Ok(Plan {
+        let shape = Shape {
             fan_out,
             capacity,
             levels: top + 1,
+        };
+        Ok(Plan {
+            shape,
             cells: needed,
         })
     }
 
     pub fn fan_out(&self) -> usize
-        ensures { result ≡ self.now.fan_out }
+        ensures { result ≡ self.now.shape.fan_out }
     {
-        self.fan_out
+        self.shape.fan_out
     }
 
     pub fn capacity(&self) -> usize
-        ensures { result ≡ self.now.capacity }
+        ensures { result ≡ self.now.shape.capacity }
     {
-        self.capacity
+        self.shape.capacity
     }
 
     // How many levels the tree has: the highest is the only one with one cell.
     pub fn levels(&self) -> usize
-        ensures is { result ≡ self.now.levels }
-        ensures until { Levelled self.now.fan_out self.now.capacity result }
+        ensures is { result ≡ self.now.shape.levels }
+        ensures until { Levelled self.now.shape.fan_out self.now.shape.capacity result }
     {
-        self.levels
+        self.shape.levels
     }
 
     // How many cells a tree of this plan needs: those of all its levels.
+    #[tactic(auto, using(crate::proofs::Shapes::plan_cells))]
     pub fn cells(&self) -> usize
         ensures is { result ≡ self.now.cells }
-        ensures all { result ≡ level_start self.now.fan_out self.now.capacity self.now.levels }
+        ensures all { result ≡ level_start self.now.shape.fan_out self.now.shape.capacity self.now.shape.levels }
     {
         self.cells
     }

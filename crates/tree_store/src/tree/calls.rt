@@ -1,25 +1,24 @@
 // What a tree does.
-ghost use Rattle.std.specs.Prelude.{◌≡◌, ◌≤◌, true, false, length, is_ok};
+ghost use Rattle.std.specs.Prelude.{◌≡◌, ◌≤◌, true, false, length, replicate, is_ok};
 ghost use Rattle.refusal.specs.Judged.{judged, left_by};
 ghost use Rattle.store.specs.Contents.{empty, push, put_rules};
-ghost use Rattle.tree_store.specs.Cells.{Entered, cleared};
+ghost use Rattle.tree_store.specs.Cells.{Entered};
 ghost use Rattle.tree_store.specs.Plans.{places};
 ghost use Rattle.tree_store.specs.Trees.{tree, Summed, with_figure, begun};
 
-use super::walk::sum_between;
-use super::{Shape, TreeStore};
+use super::TreeStore;
 use crate::Plan;
+use crate::shape::Shape;
 use group::Group;
 use refusal::Refusal;
-use store::Store;
+use store::{Store, check_span};
 
-// Sets the first cells to zero.
-fn clear<G: Group>(cells: &mut [G], count: usize)
-    requires { count ≤ length cells.old }
-    ensures { cells.new ≡ cleared G.Group.kind.zero count cells.old }
+// Sets the cells to zero.
+fn clear<G: Group>(cells: &mut [G])
+    ensures { cells.new ≡ replicate (length cells.old) G.Group.kind.zero }
 {
-    for i in 0..count {
-        cells[i] = G::identity();
+    for cell in cells.iter_mut() {
+        *cell = G::identity();
     }
 }
 
@@ -28,14 +27,14 @@ impl<'a, G: Group> TreeStore<'a, G> {
     pub fn new(plan: Plan, cells: &'a mut [G]) -> TreeStore<'a, G>
         ensures begins { tree result ≡ empty (places plan (length cells.old)) }
         ensures sound { Summed G.Group.kind result }
-        ensures fans { result.shape.fan_out ≡ plan.fan_out }
+        ensures fans { result.shape.fan_out ≡ plan.shape.fan_out }
+        ensures shape { plan.cells ≤ length cells.old → result.shape ≡ plan.shape }
         ensures touches { result.cells.now ≡ begun G.Group.kind.zero plan cells.old }
         ensures place { result.cells.ghost_name ≡ cells.entry.ghost_name }
     {
-        let needed = plan.cells();
-        if cells.len() < needed {
+        if cells.len() < plan.cells {
             let shape = Shape {
-                fan_out: plan.fan_out(),
+                fan_out: plan.shape.fan_out,
                 capacity: 0,
                 levels: 1,
             };
@@ -45,15 +44,10 @@ impl<'a, G: Group> TreeStore<'a, G> {
                 used: 0,
             };
         }
-        clear(cells, needed);
-        let shape = Shape {
-            fan_out: plan.fan_out(),
-            capacity: plan.capacity(),
-            levels: plan.levels(),
-        };
+        clear(&mut cells[..plan.cells]);
         TreeStore {
             cells,
-            shape,
+            shape: plan.shape,
             used: 0,
         }
     }
@@ -70,6 +64,7 @@ impl<'a, G: Group> Store<G> for TreeStore<'a, G> {
 
     ghost written = { with_figure G.Group.kind };
 
+    #[tactic(auto, using(crate::proofs::Shapes::used_long))]
     fn len(&self) -> usize {
         self.used
     }
@@ -79,6 +74,7 @@ impl<'a, G: Group> Store<G> for TreeStore<'a, G> {
     }
 
     // Besides what every store says of put: its shape stays, and one cell of each level is written.
+    #[tactic(auto, using(crate::proofs::Shapes::used_long))]
     fn put(&mut self, figure: G) -> Result<(), Refusal>
         ensures answers { result ≡ judged (put_rules (tree self.old)) tt }
         ensures leaves { tree self.new ≡ left_by result (tree self.old) (push (tree self.old) figure) }
@@ -97,18 +93,14 @@ impl<'a, G: Group> Store<G> for TreeStore<'a, G> {
         Ok(())
     }
 
+    #[tactic(auto, using(crate::proofs::Shapes::used_long))]
     fn get(&self, i: usize) -> Option<G> {
-        let used = &self.cells[0..self.used];
-        if i < used.len() { Some(used[i]) } else { None }
+        self.cells[..self.used].get(i).copied()
     }
 
+    #[tactic(auto, using(crate::proofs::Shapes::used_long))]
     fn total(&self, a: usize, b: usize) -> Result<G, Refusal> {
-        if a > b {
-            return Err(Refusal::Reversed);
-        }
-        if b > self.used {
-            return Err(Refusal::Beyond);
-        }
-        Ok(sum_between(self.cells, self.shape, self.used, a, b))
+        check_span(self.used, a, b)?;
+        Ok(self.sum_between(a, b))
     }
 }

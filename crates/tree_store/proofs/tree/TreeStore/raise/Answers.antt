@@ -2,26 +2,15 @@ use Rattle.std.proofs.Common.{◌≡◌, ℕ, suc, ◌+◌, ◌-◌, ◌/◌, �
 use Rattle.std.proofs.lemmas.List.{set-set}
 use Rattle.tree_store.specs.Levels.{covering, level_start, level_width}
 use Rattle.tree_store.specs.Cells.{raised}
-use Rattle.tree_store.proofs.Places.{levels_some, lowest-room, lowest, next_up, up-within, raised_again, raised-more}
-use Rattle.tree_store.specs.declared.tree.Shape.{Shape}
+use Rattle.tree_store.proofs.Places.{lowest, next_up, up-within, raised_again, raised-more}
+use Rattle.tree_store.proofs.Shapes.{some_level}
+use Rattle.tree_store.specs.declared.shape.Shape.{Shape}
 use Rattle.tree_store.proofs.tree.TreeStore.raise.Given as given
 use Rattle.tree_store.proofs.tree.TreeStore.raise.Goals as goal
 use Rattle.tree_store.proofs.tree.TreeStore.raise.Goals.{In-loop-below}
 
-pub offset_bounds-self-number : goal.offset_bounds-self-number
-offset_bounds-self-number g c =
-    let s = c.args.self.now in
-    let b = lowest-room s.shape.fan_out s.shape.capacity s.shape.levels (length s.cells.now) s.shape.levelled s.room in
-    let h : s.used < length s.cells.now = omega arith in search rules
-
-pub bounds-self-number : goal.bounds-self-number
-bounds-self-number g c =
-    let s = c.args.self.now in
-    let b = lowest-room s.shape.fan_out s.shape.capacity s.shape.levels (length s.cells.now) s.shape.levelled s.room in
-    omega arith
-
 pub overflow_sub-below-end : goal.overflow_sub-below-end
-overflow_sub-below-end g c = let s = c.args.self.now.shape in levels_some s.fan_out s.capacity s.levels s.levelled
+overflow_sub-below-end g c = some_level c.args.self.now
 
 pub loop-below-init : goal.loop-below-init
 loop-below-init g c =
@@ -74,7 +63,7 @@ loop-below-preserved g c =
     let most = s.shape.capacity in
     let l = t.below in
     let start_is : t.start + t.width ≡ level_start k most (suc l) = omega (arith, t.invariant.0, t.invariant.1) in
-    let width_is : c.div_ceil-width.result ≡ level_width k most (suc l) = c.div_ceil-width.ensures ∙ ap (covering k) t.invariant.1 in
+    let width_is : c.above-width.result ≡ level_width k most (suc l) = c.above-width.ensures ∙ ap (covering k) t.invariant.1 in
     let at-is : t.at / k ≡ s.used / k ^ suc l = ap (λ m. m / k) t.invariant.2 ∙ next_up k s.used l in
     let i = t.start + t.width + t.at / k in
     simp add-one (
