@@ -34,9 +34,7 @@ impl NodeList {
         ensures added { Adds result (listed self.old) (node ∷ []) (listed self.new) }
         ensures kept { take (length (listed self.old)) (listed self.new) ≡ listed self.old }
     {
-        self.nodes
-            .try_push(node)
-            .map_err(|_| Refusal::TooManyRows)
+        self.nodes.try_push(node).map_err(|_| Refusal::TooManyRows)
     }
 
     // Adds the nodes that a node gives, cut by the span. Cut so, a tree gives the cover of any spaced spans, and a cover that of what a span
