@@ -55,9 +55,9 @@ module _ (n : Node) (rows : ℕ) where
   room e l = sym (in_place e ∙ cond-false (ltb 128 rows) (Err TooManyRows) (Ok tt) (le-ltb 128 rows l))
 
   -- a node in place is refused for want of room alone
-  pub full : (why : Refusal) → placed n ≡ true → Err why ≡ answer (cut_rules n rows) → 128 < rows
+  pub full : (why : Refusal) → placed n ≡ true → Err why ≡ answer (cut_rules n rows) → (why ≡ TooManyRows) × (128 < rows)
   full why e r =
       ⊎_elim
-      (λ (l : 128 < rows). l)
+      (λ (l : 128 < rows). let q = r ∙ sym (no_room e l) in (cc, l))
       (λ (l : rows ≤ 128). let ok = room e l in let z : ◌≡◌ {A = ℕ} 0 1 = cc (r ∙ sym ok) in absurd (omega arith))
       (cases_lt 128 rows)

@@ -1,6 +1,5 @@
 -- The steps of the cutting, over what the code knows. Assumes nothing.
-use Rattle.std.proofs.Common.{◌≡◌, ℕ, ◌+◌, ◌-◌, ◌*◌, ◌<◌, ◌≤◌, ◌⊎◌, List, [], ◌∷◌, ◌++◌, length, get_or, drop, Result, MatchResult, sym, ap, ◌∙◌, subst, inl, inr, ⊎_elim, append_assoc, append-nil, add-one, arith, length-append, drop_of_length-le, drop-cons}
-use Rattle.std.specs.List.{flat_map}
+use Rattle.std.proofs.Common.{◌≡◌, ℕ, ◌+◌, ◌-◌, ◌*◌, ◌<◌, ◌≤◌, ◌⊎◌, List, [], ◌∷◌, ◌++◌, length, Result, MatchResult, sym, ap, ◌∙◌, subst, inl, inr, ⊎_elim, append_assoc, append-nil, arith, length-append}
 use Rattle.refusal.specs.declared.Refusal.{Refusal}
 use Rattle.refusal.specs.declared.Refusal.TheVariants.{TooManyRows}
 use Rattle.cover.specs.declared.node.Node.{Node}
@@ -38,16 +37,6 @@ step_right r from to level index before mid after h m w =
     let e : mid ++ right ≡ before ++ cut from to level index = ap (λ (x : List Node). x ++ right) m ∙ append_assoc before left right ∙ ap (λ (x : List Node). before ++ x) (sym h.parts) in
     subst (λ (x : List Node). MatchResult r (λ _. after ≡ x) (λ why. (why ≡ TooManyRows) × (128 < length x))) e w
 
--- a loop that adds the rows of one thing after the other
-module _ {X : Type 0} (f : X → List Node) (xs : List X) (i : ℕ) (d : X) (before all : List Node) (inv : before ++ flat_map f (drop i xs) ≡ all) where
-  pub joined_done : length xs ≤ i → before ≡ all
-  joined_done h = sym (append-nil before) ∙ ap (λ (x : List X). before ++ flat_map f x) (sym (drop_of_length-le xs h)) ∙ inv
-
-  joined_one : i < length xs → (before ++ f (get_or xs i d)) ++ flat_map f (drop (i + 1) xs) ≡ all
-  joined_one h = append_assoc before (f (get_or xs i d)) (flat_map f (drop (i + 1) xs)) ∙ ap (λ (k : ℕ). before ++ (f (get_or xs i d) ++ flat_map f (drop k xs))) (add-one i) ∙ ap (λ (x : List X). before ++ flat_map f x) (sym (drop-cons xs i d h)) ∙ inv
-
-  pub joined_more : i < length xs → (after : List Node) → after ≡ before ++ f (get_or xs i d) → after ++ flat_map f (drop (i + 1) xs) ≡ all
-  joined_more h after e = ap (λ (x : List Node). x ++ flat_map f (drop (i + 1) xs)) e ∙ joined_one h
-
-  pub joined_full : i < length xs → 128 < length (before ++ f (get_or xs i d)) → 128 < length all
-  joined_full h l = subst (λ (x : List Node). 128 < length x) (joined_one h) (omega (arith, length-append (before ++ f (get_or xs i d)) (flat_map f (drop (i + 1) xs))))
+-- a list with too many nodes is not mended by what comes after
+pub more_than : (before here rest all : List Node) → before ++ (here ++ rest) ≡ all → 128 < length (before ++ here) → 128 < length all
+more_than before here rest all e l = omega (arith, ap length e, length-append before (here ++ rest), length-append here rest, length-append before here)
