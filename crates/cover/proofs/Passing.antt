@@ -4,7 +4,7 @@ use mathlib.Core.List.{Memᴰ}
 use lib.Pow.{pow-lt}
 use Rattle.std.proofs.lemmas.Nat.{mul-le}
 use Rattle.std.specs.List.{list_all}
-use Rattle.std.proofs.lemmas.Bool.{cases_lt, leb-true, le-leb, ltb-true, lt-ltb, ltb-false, le-ltb, both_ways, and_parts, and_from, not_from_true, not_from_false, not-true, not-false}
+use Rattle.std.proofs.lemmas.Bool.{cases_lt, le-leb, lt-ltb, ltb-false, le-ltb, both_ways, and_parts, and_from, not_from_true, not_from_false, not-true, not-false}
 use Rattle.refusal.specs.Judged.{first}
 use Rattle.refusal.specs.Judged.{Rules}
 use Rattle.refusal.proofs.Judging.{Clear, clear, unrefused, first_passes}

@@ -1,8 +1,8 @@
 -- Whether a node lies in a tree of the greatest height, and what its cutting answers. Assumes nothing.
-use Rattle.std.proofs.Common.{◌≡◌, ℕ, ◌+◌, ◌-◌, ◌*◌, ◌/◌, ◌%◌, ◌^◌, ◌<◌, ◌≤◌, Bool, true, false, cond, not, ◌&&◌, ltb, leb, Ok, Err, Result, sym, ap, ◌∙◌, subst, ⊎_elim, arith, pow_pos, pow-add}
+use Rattle.std.proofs.Common.{◌≡◌, ℕ, ◌+◌, ◌-◌, ◌*◌, ◌/◌, ◌%◌, ◌^◌, ◌<◌, ◌≤◌, true, false, cond, not, ltb, leb, Ok, Err, Result, sym, ap, ◌∙◌, subst, ⊎_elim, arith, pow_pos, pow-add}
 use native.Mathlib.Nat.{div-eq_of_lt}
 use Rattle.std.proofs.lemmas.Nat.{shr_split, mod_below, mul-le}
-use Rattle.std.proofs.lemmas.Bool.{cond-true, cond-false, cases_Bool, cases_lt, leb-true, le-leb, lt-leb, lt-ltb, le-ltb, and_parts, and_from, not_from_true, not_from_false}
+use Rattle.std.proofs.lemmas.Bool.{cond-false, cases_Bool, leb-true, and_parts, not_from_true}
 use Rattle.refusal.specs.declared.Refusal.{Refusal}
 use Rattle.refusal.specs.declared.Refusal.TheVariants.{RowPlace, TooManyRows}
 use Rattle.refusal.specs.Judged.{Rules, judged}

@@ -1,5 +1,7 @@
 -- The steps of the cutting, over what the code knows. Assumes nothing.
-use Rattle.std.proofs.Common.{◌≡◌, ℕ, ◌+◌, ◌-◌, ◌*◌, ◌<◌, ◌≤◌, ◌⊎◌, List, [], ◌∷◌, ◌++◌, length, Result, MatchResult, sym, ap, ◌∙◌, subst, inl, inr, ⊎_elim, append_assoc, append-nil, arith, length-append}
+use Rattle.std.proofs.Common.{◌≡◌, ℕ, ◌+◌, ◌-◌, ◌*◌, ◌<◌, ◌≤◌, ◌⊎◌, List, [], ◌∷◌, ◌++◌, length, Err, Result, MatchResult, sym, ap, ◌∙◌, subst, ⊎_elim, append_assoc, append-nil, arith, length-append}
+use Rattle.std.specs.Result.{IsErrAnd}
+use Rattle.std.proofs.lemmas.Result.{err_from_is_err_and}
 use Rattle.refusal.specs.declared.Refusal.{Refusal}
 use Rattle.refusal.specs.declared.Refusal.TheVariants.{TooManyRows}
 use Rattle.cover.specs.declared.node.Node.{Node}
@@ -10,19 +12,19 @@ use Rattle.cover.proofs.Cuts.{cut_apart, cut-whole, cut-partly, Halved}
 abbrev pub Answer : Type 0
 Answer = Result (Unit {0}) Refusal
 
+-- a refusal that `?` passes on is the callee's
+pub passed_on : {R : Type 0} (P : Result R Refusal → Type 0) (why : Refusal) {r : Result R Refusal} → IsErrAnd r (λ (e : Refusal). e ≡ why) → P (Err why) → P r
+passed_on P why {r} h p = let q = err_from_is_err_and r h in subst P (sym (q.1 ∙ ap Err q.2)) p
+
 pub step-apart : (from to level index : ℕ) (before : List Node) → (to ≤ first_key (node level index)) ⊎ (past (node level index) ≤ from) → before ≡ before ++ cut from to level index
 step-apart from to level index before o = sym (append-nil before) ∙ ap (λ (x : List Node). before ++ x) (sym (cut_apart from to level index o))
 
 pub step-whole : (r : Answer) (from to level index : ℕ) (before after : List Node) → from ≤ first_key (node level index) → past (node level index) ≤ to → Adds r before (node level index ∷ []) after → Adds r before (cut from to level index) after
 step-whole r from to level index before after f p h = subst (λ (x : List Node). Adds r before x after) (sym (cut-whole from to level index f p)) h
 
-pub step-halved : (from to level index : ℕ) → first_key (node level index) < to → from < past (node level index) → ((from ≤ first_key (node level index)) × (to < past (node level index))) ⊎ (first_key (node level index) < from) → Halved from to level index
-step-halved from to level index a b o =
-    cut-partly from to level index a b (λ f p. ⊎_elim (λ (h : (from ≤ first_key (node level index)) × (to < past (node level index))). omega (arith, h.1)) (λ (h : first_key (node level index) < from). omega arith) o)
-
 pub halved-at : (from to level index first' past' : ℕ) → first' ≡ first_key (node level index) → past' ≡ past (node level index) → first' < to → from < past' → ((from ≤ first') × (to < past')) ⊎ (first' < from) → Halved from to level index
 halved-at from to level index first' past' e f a b o =
-    step-halved from to level index (omega arith) (omega arith) (⊎_elim (λ (h : (from ≤ first') × (to < past')). inl (omega (arith, h.0), omega (arith, h.1))) (λ (h : first' < from). inr (omega arith)) o)
+    cut-partly from to level index (omega arith) (omega arith) (λ p q. ⊎_elim (λ (h : (from ≤ first') × (to < past')). omega (arith, h.1)) (λ (h : first' < from). omega arith) o)
 
 pub step_left : (from to level index : ℕ) (before : List Node) → Halved from to level index → 128 < length (before ++ cut from to (level - 1) (2 * index)) → 128 < length (before ++ cut from to level index)
 step_left from to level index before h l =

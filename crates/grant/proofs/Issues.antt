@@ -57,9 +57,9 @@ module _ (words height : ℕ) (ss : List Span) (room : 66 ≤ words) (some : 0 <
     after_spans rows c =
         after-counts (length rows) ∙ judged-rest (span_rules 0 (2 ^ height) ss) ((ltb 128 (length rows), TooManyRows) ∷ []) (sym fine) ∙ ap (λ (x : List Node). cond (ltb 128 (length x)) (Err TooManyRows) (Ok tt)) (cover_unique height (named_by ss) rows (spans_rows height ss) c cover)
 
-    pub many_rows : {C : Type 0} (e : Encrypted) (root : Block) (g : Grant C) → 128 < length (spans_rows height ss) → Issues e height root ss words g (Err TooManyRows) g
-    many_rows e root g l =
-        refused e root g TooManyRows (λ rows c. sym (after_spans rows c ∙ cond-true (ltb 128 (length (spans_rows height ss))) (Err TooManyRows) (Ok tt) (lt-ltb 128 (length (spans_rows height ss)) l)))
+    pub many_rows : {C : Type 0} (e : Encrypted) (root : Block) (g : Grant C) (why : Refusal) → why ≡ TooManyRows → 128 < length (spans_rows height ss) → Issues e height root ss words g (Err why) g
+    many_rows e root g why is l =
+        refused e root g why (λ rows c. ap Err is ∙ sym (after_spans rows c ∙ cond-true (ltb 128 (length (spans_rows height ss))) (Err TooManyRows) (Ok tt) (lt-ltb 128 (length (spans_rows height ss)) l)))
 
     pub low_rows : (i : ℕ) (d : Node) → i < length (spans_rows height ss) → (lib.ListN.get_or (spans_rows height ss) i d).level ≤ height
     low_rows i d h = (cover.row (lib.ListN.get_or (spans_rows height ss) i d) (Rattle.grant.proofs.Found.member_at (spans_rows height ss) i d h)).low

@@ -1,7 +1,6 @@
 mod Verdicts
 mod Walks
 mod Found
-mod Faults
 mod Filled
 mod Added
 pub mod Serving

@@ -2,7 +2,7 @@
 use Rattle.std.proofs.Common.{◌≡◌, ℕ, ◌^◌, ◌<◌, ◌≤◌, true, List, map, length, get_or, take, Some, None, Ok, Err, Option, sym, refl, ap, ◌∙◌, subst, arith, pow_mono}
 use mathlib.Core.List.{Memᴰ}
 use Rattle.refusal.specs.declared.Refusal.{Refusal}
-use Rattle.refusal.specs.declared.Refusal.TheVariants.{EmptySpan, SpanPastEnd, TooManyRows, NothingLeft}
+use Rattle.refusal.specs.declared.Refusal.TheVariants.{TooManyRows, NothingLeft}
 use Rattle.std.proofs.lemmas.Bool.{both_ways}
 use Rattle.std.proofs.lemmas.Bool.Decides.{nat_tests}
 use Rattle.cover.specs.declared.node.Node.{Node}
@@ -19,7 +19,7 @@ use Rattle.grant.specs.declared.grant.row.Row.{Row}
 use Rattle.grant.specs.declared.grant.Grant.{Grant}
 use Rattle.grant.specs.Seeds.{Encrypted}
 use Rattle.grant.specs.Rows.{node_of, sound_rows}
-use Rattle.grant.specs.Rules.{narrow_rules}
+use Rattle.grant.specs.Rules.{bound_rules, narrow_rules}
 use Rattle.grant.proofs.Verdicts.{verdict, refused-ok}
 use Rattle.grant.specs.Grants.{rows_of, nodes_of, numbers_of, row_over, seed_from, lowered, Placed}
 use Rattle.grant.specs.Calls.{ComesFrom, Narrows}
@@ -61,13 +61,10 @@ module _ {C : Type 0} (e : Encrypted) (words : ℕ) (s : Span) (g : Grant C) whe
   refused : (why : Refusal) → ((rows : List Node) → Cover g.height (both (numbers_of g) (named s)) rows → Err why ≡ verdict (narrow_rules words g.height s (length rows))) → Narrows e s words g (Err why) g
   refused why a = record { answers = a; height = λ z. absurd (refused-ok z); rows = λ z. absurd (refused-ok z); seeds = λ z. absurd (refused-ok z); kept = λ m z. refl }
 
-  pub empty_left : 66 ≤ words → s.to ≤ s.from → Narrows e s words g (Err EmptySpan) g
-  empty_left room none = refused EmptySpan (λ rows d. grind (arith, nat_tests))
+  pub bound_fault : (why : Refusal) → 66 ≤ words → Err why ≡ verdict (bound_rules (2 ^ g.height) s) → Narrows e s words g (Err why) g
+  bound_fault why room f = refused why (λ rows d. grind (arith, nat_tests))
 
-  pub past_left : 66 ≤ words → s.from < s.to → 2 ^ g.height < s.to → Narrows e s words g (Err SpanPastEnd) g
-  past_left room some past = refused SpanPastEnd (λ rows d. grind (arith, nat_tests))
-
-module _ {C : Type 0} (e : Encrypted) (words : ℕ) (s : Span) (g : Grant C) (room : 66 ≤ words) (some : s.from < s.to) (fits : s.to ≤ 2 ^ g.height) where
+module _ {C : Type 0} (e : Encrypted) (words : ℕ) (s : Span) (g : Grant C) (room : 66 ≤ words) (fine : Ok tt ≡ verdict (bound_rules (2 ^ g.height) s)) where
   own : Cover g.height (numbers_of g) (nodes_of g)
   own = sound-cover g.height (nodes_of g) g.sound
 
@@ -77,8 +74,8 @@ module _ {C : Type 0} (e : Encrypted) (words : ℕ) (s : Span) (g : Grant C) (ro
   same_count : (rows : List Node) → Cover g.height (both (numbers_of g) (named s)) rows → length rows ≡ length (left_rows s (nodes_of g))
   same_count rows d = ap length (cover_unique g.height (both (numbers_of g) (named s)) rows (left_rows s (nodes_of g)) d left_covers)
 
-  pub many_left : 128 < length (left_rows s (nodes_of g)) → Narrows e s words g (Err TooManyRows) g
-  many_left l = refused e words s g TooManyRows (λ rows d. let n = same_count rows d in grind (arith, nat_tests))
+  pub many_left : (why : Refusal) → why ≡ TooManyRows → 128 < length (left_rows s (nodes_of g)) → Narrows e s words g (Err why) g
+  many_left why is l = refused e words s g why (λ rows d. let n = same_count rows d in ap Err is ∙ grind (arith, nat_tests))
 
   pub none_left : length (left_rows s (nodes_of g)) ≡ 0 → Narrows e s words g (Err NothingLeft) g
   none_left l = refused e words s g NothingLeft (λ rows d. let n = same_count rows d in grind (arith, nat_tests))
@@ -115,7 +112,7 @@ module _ {C : Type 0} (e : Encrypted) (words : ℕ) (s : Span) (g : Grant C) (ro
         (y, u.0, u.1, a.level, ap (λ (o : Option Row). seed_from e o n) a.found)
 
     pub narrowed_to : (after : Grant C) → after.height ≡ g.height → rows_of after ≡ take count rows → 0 < length (left_rows s (nodes_of g)) → length (left_rows s (nodes_of g)) ≤ 128 → Narrows e s words g (Ok tt) after
-    narrowed_to after h same held l =
+    narrowed_to after h same some l =
         record {
           answers = λ ns d. let n = same_count ns d in grind (arith, nat_tests);
           height = λ z. h;

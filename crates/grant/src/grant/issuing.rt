@@ -1,8 +1,8 @@
 // Issuing a grant.
 ghost use Rattle.std.specs.Prelude.{◌≡◌, ◌≤◌, length, replicate};
 ghost use Rattle.cover.specs.Tree.{CoverIsOne};
-ghost use Rattle.cover.specs.Cut.{spans_rows, Adds};
-ghost use Rattle.cover.specs.Listed.{listed};
+ghost use Rattle.cover.specs.Cut.{spans_rows};
+ghost use Rattle.cover.specs.Listed.{Lists};
 ghost use Rattle.grant.specs.Calls.{Issues};
 ghost use Rattle.grant.specs.Histories.{Continues, issued};
 
@@ -30,11 +30,12 @@ impl<C: Cipher> SeedSource for KeyTree<C> {
     }
 }
 
-// Adds the nodes of the spans, one span after the other, where there is room for all.
-fn cut_spans(height: u32, spans: &[Span], nodes: &mut NodeList) -> Result<(), Refusal>
+// The nodes of the spans, one span after the other, where there is room for all.
+fn cut_spans(height: u32, spans: &[Span]) -> Result<NodeList, Refusal>
     requires { height ≤ 32 }
-    ensures { Adds result (listed nodes.old) (spans_rows height spans.now) (listed nodes.new) }
+    ensures { Lists result (spans_rows height spans.now) }
 {
+    let mut nodes = NodeList::new();
     let root = Node {
         level: height,
         index: 0,
@@ -42,7 +43,7 @@ fn cut_spans(height: u32, spans: &[Span], nodes: &mut NodeList) -> Result<(), Re
     for span in spans {
         nodes.cut(root, *span)?;
     }
-    Ok(())
+    Ok(nodes)
 }
 
 // All the ways out of an issue, over scratch that the caller wipes. The rows go straight into the grant, so that no other memory has all
@@ -65,9 +66,8 @@ fn issue_with<C: Cipher>(
         return Err(Refusal::TooManySpans);
     }
     check_spans(tree.height, spans)?;
-    let mut nodes = NodeList::new();
-    cut_spans(tree.height, spans, &mut nodes)?;
-    let nodes = nodes.as_slice();
+    let list = cut_spans(tree.height, spans)?;
+    let nodes = list.as_slice();
     grant.rows.fill(Row::BLANK);
     seed_rows(tree, nodes, path, &mut grant.rows);
     grant.height = tree.height;

@@ -1,8 +1,8 @@
 // Narrowing a grant.
 ghost use Rattle.std.specs.Prelude.{◌≡◌, length, replicate};
 ghost use Rattle.cover.specs.Tree.{CoverIsOne, NoRowsNoKeys};
-ghost use Rattle.cover.specs.Cut.{left_rows, Adds};
-ghost use Rattle.cover.specs.Listed.{listed};
+ghost use Rattle.cover.specs.Cut.{left_rows};
+ghost use Rattle.cover.specs.Listed.{Lists};
 ghost use Rattle.grant.specs.Grants.{nodes_of};
 ghost use Rattle.grant.specs.Calls.{Narrows};
 ghost use Rattle.grant.specs.Histories.{Continues, narrowed};
@@ -11,6 +11,7 @@ use super::seeding::{SeedSource, seed_rows};
 use super::{Grant, Row};
 use crate::descent::descend;
 use crate::scratch::{Path, Wiped};
+use crate::spans::check_span;
 use cipher::{Block, Cipher};
 use cover::{Node, NodeList, Span};
 use refusal::Refusal;
@@ -34,14 +35,15 @@ impl<C: Cipher> SeedSource for Grant<C> {
 }
 
 impl<C> Grant<C> {
-    // Adds the nodes that the span leaves of each row, where there is room for all.
-    fn cut_rows(&self, span: Span, nodes: &mut NodeList) -> Result<(), Refusal>
-        ensures { Adds result (listed nodes.old) (left_rows span (nodes_of self.now)) (listed nodes.new) }
+    // The nodes that the span leaves of each row, where there is room for all.
+    fn cut_rows(&self, span: Span) -> Result<NodeList, Refusal>
+        ensures { Lists result (left_rows span (nodes_of self.now)) }
     {
+        let mut nodes = NodeList::new();
         for row in self.rows() {
             nodes.cut(row.node(), span)?;
         }
-        Ok(())
+        Ok(nodes)
     }
 }
 
@@ -56,25 +58,17 @@ fn narrow_with<C: Cipher>(
     let Some(path) = scratch.first_chunk_mut::<66>() else {
         return Err(Refusal::ShortScratch);
     };
-    if span.to <= span.from {
-        return Err(Refusal::EmptySpan);
-    }
-    let height = grant.height;
-    if span.to > 1u64 << height {
-        return Err(Refusal::SpanPastEnd);
-    }
-    let mut nodes = NodeList::new();
-    grant.cut_rows(span, &mut nodes)?;
-    let nodes = nodes.as_slice();
-    let count = nodes.len();
-    if count == 0 {
+    check_span(grant.height, span)?;
+    let list = grant.cut_rows(span)?;
+    let nodes = list.as_slice();
+    if nodes.is_empty() {
         return Err(Refusal::NothingLeft);
     }
     let mut rows = [Row::BLANK; 128];
     seed_rows(&*grant, nodes, path, &mut rows);
     *grant = Grant {
-        height,
-        count,
+        height: grant.height,
+        count: nodes.len(),
         rows,
         cipher: PhantomData,
     };

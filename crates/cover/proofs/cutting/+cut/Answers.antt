@@ -1,8 +1,7 @@
-use Rattle.std.proofs.Common.{Err, sym, ap, ◌∙◌, subst, inl, inr, ⊎_elim, arith}
-use Rattle.std.proofs.lemmas.Result.{err_from_is_err_and}
+use Rattle.std.proofs.Common.{inl, inr, ⊎_elim, arith}
 use Rattle.cover.specs.Cut.{cut, Adds}
 use Rattle.cover.specs.Listed.{listed}
-use Rattle.cover.proofs.Steps.{Answer, step-apart, step-whole, halved-at, step_left, step_right}
+use Rattle.cover.proofs.Steps.{Answer, passed_on, step-apart, step-whole, halved-at, step_left, step_right}
 use Rattle.cover.proofs.cutting.+cut.Goals as goal
 
 pub returns-then-span-first-clause-added : goal.returns-then-span-first-clause-added
@@ -23,10 +22,8 @@ returns-in_err-cut-clause-added t c =
     let s = c.args.span in
     let before = listed c.args.rows.now in
     let h = halved-at s.from s.to c.args.level c.args.index _ _ c.first_key-first.ensures c.first_key-past.ensures c.if-span-first.false c.if-past-span.false c.else-span-first-2.either in
-    let q = err_from_is_err_and c.from_residual.result c.from_residual.ensures.1 in
     let w = c.in_err-cut.ensures.added in
-    subst (λ (r : Answer). Adds r before (cut s.from s.to c.args.level c.args.index) (listed c.cut.new.rows)) (sym (q.1 ∙ ap Err q.2))
-    (w.0, step_left s.from s.to c.args.level c.args.index before h w.1)
+    passed_on (λ (r : Answer). Adds r before (cut s.from s.to c.args.level c.args.index) (listed c.cut.new.rows)) _ c.from_residual.ensures.1 (w.0, step_left s.from s.to c.args.level c.args.index before h w.1)
 
 pub cut-requires-2 : goal.cut-requires-2
 cut-requires-2 t c =
