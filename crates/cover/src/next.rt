@@ -25,6 +25,7 @@ fn begins_before_end(height: u32, node: Node, other: Node) -> bool
 }
 
 // Whether a node may stand as the next row, after the one before it or as the first. Rows that pass are sound.
+#[tactic(auto, using(std::proofs::lemmas::Bool::Decides::nat_tests, crate::proofs::Passing::passing_is_sound))]
 pub fn check_next(height: u32, before: Option<Node>, node: Node) -> Result<(), Refusal>
     ensures answers { result ≡ judged (check_rules height before node) tt }
     ensures sound { PassingIsSound }

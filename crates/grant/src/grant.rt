@@ -12,6 +12,7 @@ mod filling;
 mod issuing;
 mod narrowing;
 mod reading;
+mod seeding;
 
 mod row {
     use super::Block;
@@ -22,6 +23,15 @@ mod row {
         pub level: u32,
         pub index: u64,
         pub seed: Block,
+    }
+
+    impl Row {
+        // Row (0, 0) with seed zero, which stands where no row is.
+        pub(crate) const BLANK: Row = Row {
+            level: 0,
+            index: 0,
+            seed: Block { high: 0, low: 0 },
+        };
     }
 }
 

@@ -1,5 +1,4 @@
-use Rattle.std.proofs.Common.{◌≡◌, ℕ, ◌≤◌, false, length, take, sym, refl, ap, ◌∙◌, arith}
-use Rattle.std.proofs.lemmas.List.{length-take-le}
+use Rattle.std.proofs.Common.{◌≡◌, ℕ, Err, false, length, take, refl, ap, ◌∙◌, arith}
 use Rattle.cover.specs.Cut.{placed}
 use Rattle.cover.specs.Listed.{listed}
 use Rattle.cover.proofs.Covers.{spans_cover, left-cover}
@@ -21,15 +20,13 @@ returns-then-node-gt32 c =
 pub cut-requires : goal.cut-requires
 cut-requires c = record { low = c.if-node-gt32.false; inside = inside c.args.node c.if-node-gt32.false c.if-node-ne0.false }
 
-pub returns-then-not-cut : goal.returns-then-not-cut
-returns-then-not-cut c =
+pub returns-in-Err : goal.returns-in-Err
+returns-in-Err c =
     let n = c.args.node in
-    let s = c.args.self.now in
     let low = c.if-node-gt32.false in
-    let long : length (listed s) ≡ s.count = length-take-le s.count s.list (omega arith) in
     record {
-      answers = no_room n _ (placed_in n low (inside n low c.if-node-ne0.false)) c.if-not-cut.ensures.added;
-      leaves = ap (λ (k : ℕ). take k c.cut.new.rows.list) (sym long) ∙ c.cut.ensures.kept;
+      answers = ap Err c.in-Err.ensures.added.0 ∙ no_room n _ (placed_in n low (inside n low c.if-node-ne0.false)) c.in-Err.ensures.added.1;
+      leaves = c.truncate.ensures.items ∙ ap (λ (k : ℕ). take k (listed c.cut.new.rows)) c.len-count.ensures.value ∙ c.in-Err.ensures.kept;
       spans = spans_cover;
       narrowed = left-cover;
       one = cover_is_one;
@@ -40,12 +37,9 @@ pub returns : goal.returns
 returns c =
     let n = c.args.node in
     let low = c.if-node-gt32.false in
-    let l = c.cut.new.rows in
-    let added = c.if-not-cut.ensures.added in
-    let few : length (listed l) ≤ 128 = omega (arith, length-take-le l.count l.list (omega arith)) in
     record {
-      answers = room n _ (placed_in n low (inside n low c.if-node-ne0.false)) (omega (arith, ap length added));
-      leaves = added;
+      answers = room n _ (placed_in n low (inside n low c.if-node-ne0.false)) (omega (arith, c.cut.new.rows.fits, ap length c.in_default.ensures.added));
+      leaves = c.in_default.ensures.added;
       spans = spans_cover;
       narrowed = left-cover;
       one = cover_is_one;
