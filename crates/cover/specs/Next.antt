@@ -1,8 +1,9 @@
 -- Which node may stand as the next row of a grant. Assumes nothing.
 use Rattle.std.specs.Prelude.{◌≡◌, ℕ, ◌-◌, ◌^◌, Bool, true, not, ◌&&◌, ◌↔◌, List, [], ◌∷◌, ◌++◌, Some, None, Option, nat_le, nat_lt}
-use Rattle.refusal.specs.declared.Refusal.TheVariants.{Height, RowPlace, RowOrder, RowHalves}
+use Rattle.refusal.specs.declared.Refusal.TheVariants.{RowPlace, RowOrder, RowHalves}
 use Rattle.refusal.specs.Judged.{Rules, first}
 use Rattle.cover.specs.declared.node.Node.{Node}
+use Rattle.cover.specs.Heights.{height_rules}
 use Rattle.cover.specs.Tree.{first_key, past, halves, sound}
 
 -- Whether a node is one of the tree of this height.
@@ -20,7 +21,7 @@ next_rules height before n = (not (in_tree height n), RowPlace) ∷ after_rules 
 
 -- The same with the height judged first, by 8.
 abbrev pub check_rules : ℕ → Option Node → Node → Rules
-check_rules height before n = (not (nat_le 1 height && nat_le height 32), Height) ∷ next_rules height before n
+check_rules height before n = height_rules height ++ next_rules height before n
 
 -- Nodes one after the other.
 abbrev pub list_rules : ℕ → Option Node → List Node → Rules

@@ -2,10 +2,12 @@
 #![tactic(auto)]
 
 mod cutting;
+mod height;
 mod listing;
 mod next;
 mod node;
 
+pub use height::Height;
 pub use listing::NodeList;
 pub use next::check_next;
 pub use node::{Node, Span};

@@ -4,21 +4,21 @@ ghost use Rattle.refusal.specs.Judged.{judged};
 ghost use Rattle.cover.specs.Tree.{first_key, past as past_node};
 ghost use Rattle.cover.specs.Next.{in_tree, check_rules, PassingIsSound};
 
+use crate::height::Height;
 use crate::node::Node;
 use refusal::Refusal;
 
 // Whether a node is one of the tree of this height.
-fn is_in_tree(height: u32, node: Node) -> bool
-    requires { height ≤ 32 }
-    ensures { result ≡ in_tree height node }
+fn is_in_tree(height: Height, node: Node) -> bool
+    ensures { result ≡ in_tree height.levels node }
 {
-    node.level <= height && node.index < 1 << (height - node.level)
+    let levels = height.levels();
+    node.level <= levels && node.index < 1 << (levels - node.level)
 }
 
 // Whether a node begins before another ends. The other may be any node: one outside the tree ends above each key of it.
-fn begins_before_end(height: u32, node: Node, other: Node) -> bool
-    requires fits { height ≤ 32 }
-    requires inside { in_tree height node ≡ true }
+fn begins_before_end(height: Height, node: Node, other: Node) -> bool
+    requires { in_tree height.levels node ≡ true }
     ensures { result ≡ nat_lt (first_key node) (past_node other) }
 {
     !is_in_tree(height, other) || node.index << node.level < (other.index + 1) << other.level
@@ -30,9 +30,7 @@ pub fn check_next(height: u32, before: Option<Node>, node: Node) -> Result<(), R
     ensures answers { result ≡ judged (check_rules height before node) tt }
     ensures sound { PassingIsSound }
 {
-    if height < 1 || height > 32 {
-        return Err(Refusal::Height);
-    }
+    let height = Height::new(height)?;
     if !is_in_tree(height, node) {
         return Err(Refusal::RowPlace);
     }
