@@ -1,7 +1,6 @@
 pub mod Widths
 pub mod Climbs
 pub mod Above
-pub mod Cases
 pub mod Parts
 pub mod Places
 pub mod Rising

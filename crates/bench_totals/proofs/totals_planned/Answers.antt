@@ -1,7 +1,7 @@
 use Rattle.std.proofs.Common.{◌≡◌, ◌-◌, ◌≤◌, length, take, None, Ok, sym, ap, ◌∙◌, arith}
 use Rattle.std.proofs.lemmas.List.{take_all}
 use Rattle.std.proofs.lemmas.Bool.{ltb-false}
-use Rattle.refusal.specs.Judged.{first, refusal}
+use Rattle.refusal.specs.Judged.{first}
 use Rattle.refusal.proofs.Judging.{clear, judged-passed}
 use Rattle.tree_store.specs.Plans.{plan_rules, places}
 use Rattle.tree_store.specs.Trees.{tree}

@@ -12,6 +12,7 @@ use store::MAX_CAPACITY;
 
 impl Plan {
     // A plan for a tree over so many cells.
+    #[tactic(auto, using(std::proofs::lemmas::Bool::Decides::nat_tests))]
     pub fn new(fan_out: usize, capacity: usize, cells: usize) -> Result<Plan, Refusal>
         ensures refuses { refusal result ≡ first (plan_rules fan_out capacity cells) }
         ensures plans { (p : Plan) → result ≡ Ok p → figures p ≡ (fan_out, capacity, cells_needed fan_out capacity) }

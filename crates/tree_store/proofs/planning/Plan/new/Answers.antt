@@ -1,14 +1,8 @@
 use Rattle.std.proofs.Common.{add-one, arith}
-use Rattle.tree_store.proofs.Cases.{bad_fan_out, bad_capacity, short_of, planned}
+use Rattle.std.proofs.lemmas.Bool.Decides.{nat_tests}
 use Rattle.tree_store.proofs.Widths.{covering-less}
 use Rattle.tree_store.proofs.Climbs.{climb-first, climb-more, climb_last, climb-cells}
 use Rattle.tree_store.proofs.planning.Plan.new.Goals as goal
-
-pub returns-then-fan_out-lt2-clause-refuses : goal.returns-then-fan_out-lt2-clause-refuses
-returns-then-fan_out-lt2-clause-refuses c = bad_fan_out c.args.fan_out c.args.capacity c.args.cells c.then-fan_out-lt2.either
-
-pub returns-then-capacity-lt1-clause-refuses : goal.returns-then-capacity-lt1-clause-refuses
-returns-then-capacity-lt1-clause-refuses c = bad_capacity c.args.fan_out c.args.capacity c.args.cells c.if-fan_out-lt2.false c.if-fan_out-gt64.false c.then-capacity-lt1.either
 
 pub loop-width-init : goal.loop-width-init
 loop-width-init c = (c.if-fan_out-lt2.false, climb-first c.args.fan_out c.args.capacity c.if-capacity-lt1.false c.if-capacity-gt-MAX_CAPACITY.false)
@@ -24,7 +18,7 @@ loop-width-preserved c =
 pub returns-then-cells-needed-clause-refuses : goal.returns-then-cells-needed-clause-refuses
 returns-then-cells-needed-clause-refuses c =
     let e = climb-cells c.loop-width.invariant.1 c.loop-width-test.false in
-    short_of c.args.fan_out c.args.capacity c.args.cells c.if-fan_out-lt2.false c.if-fan_out-gt64.false c.if-capacity-lt1.false c.if-capacity-gt-MAX_CAPACITY.false (omega arith)
+    grind (arith, nat_tests)
 
 pub invariant_of-shape : goal.invariant_of-shape
 invariant_of-shape c =
@@ -37,7 +31,7 @@ invariant_of-result c = record { some = c.if-capacity-lt1.false; counted = climb
 pub returns-clause-refuses : goal.returns-clause-refuses
 returns-clause-refuses c =
     let e = climb-cells c.loop-width.invariant.1 c.loop-width-test.false in
-    planned c.args.fan_out c.args.capacity c.args.cells c.if-fan_out-lt2.false c.if-fan_out-gt64.false c.if-capacity-lt1.false c.if-capacity-gt-MAX_CAPACITY.false (omega arith)
+    grind (arith, nat_tests)
 
 pub returns-clause-plans : goal.returns-clause-plans
 returns-clause-plans c = λ p is. let e = climb-cells c.loop-width.invariant.1 c.loop-width-test.false in cc
