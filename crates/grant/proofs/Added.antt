@@ -1,7 +1,8 @@
 -- A grant with one row more. Assumes nothing.
 use Rattle.std.proofs.Common.{◌≡◌, ℕ, ◌+◌, ◌-◌, ◌^◌, ◌<◌, ◌≤◌, true, not, ◌&&◌, leb, List, [], ◌∷◌, ◌++◌, map, length, get_or, take, set, Some, None, Ok, Err, Option, sym, refl, ap, ◌∙◌, arith}
 use Rattle.std.proofs.lemmas.List.{take_more, take_more_set, map-append}
-use Rattle.std.proofs.lemmas.Bool.{cond-false, le-leb, leb-true, and_from, and_parts, not_from_true, not-false}
+use Rattle.std.proofs.lemmas.Bool.{le-leb, leb-true, and_from, and_parts, not-false}
+use Rattle.std.proofs.lemmas.Bool.Decides.{nat_tests}
 use Rattle.refusal.specs.declared.Refusal.{Refusal}
 use Rattle.refusal.specs.declared.Refusal.TheVariants.{Height, TooManyRows}
 use Rattle.refusal.specs.Judged.{Rules, first, refusal}
@@ -20,9 +21,7 @@ use Rattle.grant.proofs.Verdicts.{verdict, judged-found, judged-rest, judged-non
 
 -- with a height in range the check is that of the node
 pub in_range : (height : ℕ) (before : Option Node) (n : Node) → 1 ≤ height → height ≤ 32 → verdict (check_rules height before n) ≡ verdict (next_rules height before n)
-in_range height before n low high =
-    cond-false (not (leb 1 height && leb height 32)) (Err Height) (verdict (next_rules height before n))
-    (not_from_true (leb 1 height && leb height 32) (and_from (leb 1 height) (leb height 32) (le-leb 1 height low) (le-leb height 32 high)))
+in_range height before n low high = grind (arith, nat_tests)
 
 module _ (count : ℕ) (rows : List Row) where
   split : 1 ≤ count → count ≤ length rows → map node_of (take count rows) ≡ map node_of (take (count - 1) rows) ++ (node_of (get_or rows (count - 1) no_row) ∷ [])
