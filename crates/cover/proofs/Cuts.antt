@@ -182,22 +182,14 @@ cut-between from to level index h = rising-between (first_key (node level index)
 
 -- the cut by the tests that the code makes
 pub cut_apart : (from to level index : ℕ) → (to ≤ first_key (node level index)) ⊎ (past (node level index) ≤ from) → cut from to level index ≡ []
-cut_apart from to level index o =
-    let fp = first_past (node level index) in
-    elim (way from to level index) [
-      | apart _ e ↦ e
-      | whole f p e ↦ absurd (⊎_elim (λ (h : to ≤ first_key (node level index)). omega arith) (λ (h : past (node level index) ≤ from). omega arith) o)
-      | partly l z a b not e ↦ absurd (⊎_elim (λ (h : to ≤ first_key (node level index)). omega arith) (λ (h : past (node level index) ≤ from). omega arith) o)
-    ]
+unfolding cut
+cut_apart from to zero index o = grind (arith, nat_tests)
+cut_apart from to (suc level) index o = grind (arith, nat_tests)
 
 pub cut-whole : (from to level index : ℕ) → from ≤ first_key (node level index) → past (node level index) ≤ to → cut from to level index ≡ node level index ∷ []
-cut-whole from to level index f p =
-    let fp = first_past (node level index) in
-    elim (way from to level index) [
-      | apart o e ↦ absurd (⊎_elim (λ (h : to ≤ first_key (node level index)). omega arith) (λ (h : past (node level index) ≤ from). omega arith) o)
-      | whole _ _ e ↦ e
-      | partly l z a b not e ↦ absurd (not f p)
-    ]
+unfolding cut
+cut-whole from to zero index f p = let fp = first_past (node zero index) in grind (arith, nat_tests)
+cut-whole from to (suc level) index f p = let fp = first_past (node (suc level) index) in grind (arith, nat_tests)
 
 pub record Halved (from to level index : ℕ) : Type 0 where
   pub above : 0 < level

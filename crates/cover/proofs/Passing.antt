@@ -1,10 +1,10 @@
 -- Rows that pass one after the other are sound, and sound rows pass. Assumes nothing.
-use Rattle.std.proofs.Common.{◌≡◌, ℕ, ◌+◌, ◌-◌, ◌*◌, ◌^◌, ◌<◌, ◌≤◌, true, false, not, ltb, leb, List, [], ◌∷◌, ◌++◌, Some, None, Option, sym, refl, ap, ◌∙◌, subst, ⊎_elim, arith, pow_pos, pow-add}
+use Rattle.std.proofs.Common.{◌≡◌, ℕ, ◌+◌, ◌-◌, ◌*◌, ◌^◌, ◌<◌, ◌≤◌, true, false, not, List, [], ◌∷◌, ◌++◌, Some, None, Option, sym, refl, ap, ◌∙◌, subst, ⊎_elim, arith, pow_pos, pow-add}
 use mathlib.Core.List.{Memᴰ}
 use lib.Pow.{pow-lt}
 use Rattle.std.proofs.lemmas.Nat.{mul-le}
 use Rattle.std.specs.List.{list_all}
-use Rattle.std.proofs.lemmas.Bool.{cases_lt, le-leb, lt-ltb, ltb-false, le-ltb, both_ways, and_parts, and_from, not_from_true, not_from_false, not-true, not-false}
+use Rattle.std.proofs.lemmas.Bool.{cases_lt, le-leb, ltb-false, le-ltb, both_ways, and_parts, and_from, not_from_true, not_from_false, not-true, not-false}
 use Rattle.refusal.specs.Judged.{first}
 use Rattle.refusal.specs.Judged.{Rules}
 use Rattle.refusal.proofs.Judging.{Clear, clear, unrefused, first_passes}
@@ -36,7 +36,7 @@ module _ (height : ℕ) (n : Node) where
   past-tree low end =
       let up : (n.index + 1) * 2 ^ n.level ≤ 2 ^ (height - n.level) * 2 ^ n.level = subst (λ (x : ℕ). past n ≤ x) (sym (split low)) end in
       let few : n.index + 1 ≤ 2 ^ (height - n.level) = le-cancel (n.index + 1) (2 ^ (height - n.level)) (2 ^ n.level) (pow_pos n.level) up in
-      and_from (leb n.level height) (ltb n.index (2 ^ (height - n.level))) (le-leb n.level height low) (lt-ltb n.index (2 ^ (height - n.level)) (omega arith))
+      grind (arith, nat_tests)
 
   -- a node that ends inside the tree is one of the tree
   pub ends-inside : past n ≤ 2 ^ height → in_tree height n ≡ true

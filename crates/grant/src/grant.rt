@@ -36,6 +36,7 @@ mod row {
 }
 
 // Some keys of a tree under one cipher. The rows are the first `count`; behind them no seed is held, so that a narrowed grant keeps no old one.
+// Places and count stand here, and not as an `ArrayVec`, since no clause can speak of what stands behind the items of one.
 #[derive(Drop)]
 pub struct Grant<C> {
     height: u32,
