@@ -14,7 +14,7 @@ pub(crate) struct Sizes {
     pub(crate) count: usize,
 }
 
-// The sizes that a heading in form and in range says.
+// The height and the number of rows, by a heading in form and in range.
 pub(crate) fn read_heading(text: &[u8]) -> Result<Sizes, Refusal>
     ensures { MatchResult result (λ s. Headed text.now s.height s.count) (λ e. (e ≡ Heading) × ((h k : ℕ) → Headed text.now h k → ⊥)) }
 {
@@ -29,6 +29,7 @@ fn sizes_in_form(text: &[u8]) -> Option<Sizes>
     if !(1..=32).contains(&height) || !(1..=128).contains(&count) {
         return None;
     }
+    // In range by the test above: a checked conversion would add a way out that is never taken.
     Some(Sizes {
         height: height as u32,
         count: count as usize,
