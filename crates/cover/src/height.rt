@@ -13,6 +13,9 @@ pub struct Height {
 }
 
 impl Height {
+    // The height of the lowest tree, which has two keys.
+    pub const LOWEST: Height = Height { levels: 1 };
+
     ghost use Rattle.cover.specs.Heights.{height_rules, told};
 
     pub fn new(levels: u32) -> Result<Height, Refusal>

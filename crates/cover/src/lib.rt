@@ -9,5 +9,5 @@ mod node;
 
 pub use height::Height;
 pub use listing::NodeList;
-pub use next::check_next;
+pub use next::{check_after, check_next};
 pub use node::{Node, Span};

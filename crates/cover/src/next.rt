@@ -2,7 +2,7 @@
 ghost use Rattle.std.specs.Prelude.{◌≡◌, ◌≤◌, true, nat_lt};
 ghost use Rattle.refusal.specs.Judged.{judged};
 ghost use Rattle.cover.specs.Tree.{first_key, past as past_node};
-ghost use Rattle.cover.specs.Next.{in_tree, check_rules, PassingIsSound};
+ghost use Rattle.cover.specs.Next.{in_tree, check_rules, next_rules, PassingIsSound};
 
 use crate::height::Height;
 use crate::node::Node;
@@ -26,11 +26,10 @@ fn begins_before_end(height: Height, node: Node, other: Node) -> bool
 
 // Whether a node may stand as the next row, after the one before it or as the first. Rows that pass are sound.
 #[tactic(auto, using(std::proofs::lemmas::Bool::Decides::nat_tests, crate::proofs::Passing::passing_is_sound))]
-pub fn check_next(height: u32, before: Option<Node>, node: Node) -> Result<(), Refusal>
-    ensures answers { result ≡ judged (check_rules height before node) tt }
+pub fn check_after(height: Height, before: Option<Node>, node: Node) -> Result<(), Refusal>
+    ensures answers { result ≡ judged (next_rules height.levels before node) tt }
     ensures sound { PassingIsSound }
 {
-    let height = Height::new(height)?;
     if !is_in_tree(height, node) {
         return Err(Refusal::RowPlace);
     }
@@ -44,4 +43,13 @@ pub fn check_next(height: u32, before: Option<Node>, node: Node) -> Result<(), R
         return Err(Refusal::RowHalves);
     }
     Ok(())
+}
+
+// The same with the height judged first.
+#[tactic(auto, using(std::proofs::lemmas::Bool::Decides::nat_tests, crate::proofs::Passing::passing_is_sound))]
+pub fn check_next(height: u32, before: Option<Node>, node: Node) -> Result<(), Refusal>
+    ensures answers { result ≡ judged (check_rules height before node) tt }
+    ensures sound { PassingIsSound }
+{
+    check_after(Height::new(height)?, before, node)
 }

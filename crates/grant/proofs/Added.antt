@@ -19,10 +19,6 @@ use Rattle.grant.specs.Grants.{rows_of, nodes_of}
 use Rattle.grant.specs.Filling.{add_rules}
 use Rattle.grant.proofs.Verdicts.{verdict, judged-found, judged-rest, judged-none}
 
--- with a height in range the check is that of the node
-pub in_range : (height : ℕ) (before : Option Node) (n : Node) → 1 ≤ height → height ≤ 32 → verdict (check_rules height before n) ≡ verdict (next_rules height before n)
-in_range height before n low high = grind (arith, nat_tests)
-
 last_at : (before : Option Node) (r : Row) (rs : List Row) → last_of before (map node_of (r ∷ rs)) ≡ option_map node_of (slice_get (r ∷ rs) (length rs))
 last_at before r [] = refl
 last_at before r (x ∷ rs) = last_at (Some (node_of r)) x rs
@@ -34,32 +30,31 @@ last_row (r ∷ rs) = ap (λ (n : ℕ). option_map node_of (slice_get (r ∷ rs)
 -- what the check of the next row says of the adding
 module _ {C : Type 0} (g : Grant C) (row : Row) (m : Option Node) (n : Node) (before : m ≡ last_of None (nodes_of g)) (here : n ≡ node_of row) where
   rules : Rules
-  rules = next_rules g.height (last_of None (nodes_of g)) (node_of row)
+  rules = next_rules g.height.levels (last_of None (nodes_of g)) (node_of row)
 
-  same : verdict (check_rules g.height m n) ≡ verdict rules
+  same : verdict (next_rules g.height.levels m n) ≡ verdict rules
   unfolding rules
-  same = in_range g.height m n g.low g.high ∙ (λ i. verdict (next_rules g.height (before i) (here i)))
+  same i = verdict (next_rules g.height.levels (before i) (here i))
 
-  pub added_refused : (why : Refusal) → Err why ≡ verdict (check_rules g.height m n) → verdict (add_rules g row) ≡ Err why
+  pub added_refused : (why : Refusal) → Err why ≡ verdict (next_rules g.height.levels m n) → verdict (add_rules g row) ≡ Err why
   unfolding rules
   added_refused why e = judged-found rules ((leb 128 (length (rows_of g)), TooManyRows) ∷ []) why (sym (e ∙ same))
 
-  pub added_passed : verdict (check_rules g.height m n) ≡ Ok tt → verdict (add_rules g row) ≡ verdict ((leb 128 (length (rows_of g)), TooManyRows) ∷ [])
+  pub added_passed : verdict (next_rules g.height.levels m n) ≡ Ok tt → verdict (add_rules g row) ≡ verdict ((leb 128 (length (rows_of g)), TooManyRows) ∷ [])
   unfolding rules
   added_passed e = judged-rest rules ((leb 128 (length (rows_of g)), TooManyRows) ∷ []) (sym same ∙ e)
 
-  pub added_sound : g.count < length g.rows → verdict (check_rules g.height m n) ≡ Ok tt → sound_rows g.height (g.count + 1) (set g.rows g.count row) ≡ true
+  pub added_sound : g.count < length g.rows → verdict (next_rules g.height.levels m n) ≡ Ok tt → sound_rows g.height.levels (g.count + 1) (set g.rows g.count row) ≡ true
   unfolding rules
   added_sound room e =
       let free : first rules ≡ None = sym (refusal-judged rules tt) ∙ ap refusal (sym same ∙ e) in
-      ap (λ (rs : List Row). sound g.height (map node_of rs)) (take_more_set g.rows g.count row room)
-      ∙ ap (sound g.height) (map-append node_of (rows_of g) (row ∷ []))
-      ∙ sound_more g.height (nodes_of g) (node_of row) g.sound free
+      ap (λ (rs : List Row). sound g.height.levels (map node_of rs)) (take_more_set g.rows g.count row room)
+      ∙ ap (sound g.height.levels) (map-append node_of (rows_of g) (row ∷ []))
+      ∙ sound_more g.height.levels (nodes_of g) (node_of row) g.sound free
 
 -- a first row that passes
-pub first-passed : (height : ℕ) (row : Row) (n : Node) → n ≡ node_of row → verdict (check_rules height None n) ≡ Ok tt → (1 ≤ height) × (height ≤ 32) × (sound height (node_of row ∷ []) ≡ true)
-first-passed height row n here e =
-    let h = judged-none (not (leb 1 height && leb height 32), Height) (next_rules height None n) e in
-    let range = and_parts (leb 1 height) (leb height 32) (not-false (leb 1 height && leb height 32) h.0) in
-    let free : first (next_rules height None (node_of row)) ≡ None = sym (refusal-judged (next_rules height None (node_of row)) tt) ∙ ap refusal (ap (λ (x : Node). verdict (next_rules height None x)) (sym here) ∙ h.1) in
-    (leb-true 1 height range.0, leb-true height 32 range.1, sound_more height [] (node_of row) (and_from (leb 0 (2 ^ height)) true (le-leb 0 (2 ^ height) (omega arith)) refl) free)
+pub first_sound : (height : ℕ) (row : Row) (n : Node) → n ≡ node_of row → verdict (next_rules height None n) ≡ Ok tt → sound height (node_of row ∷ []) ≡ true
+first_sound height row n here e =
+    let rules = next_rules height None (node_of row) in
+    let free : first rules ≡ None = sym (refusal-judged rules tt) ∙ ap refusal (ap (λ (x : Node). verdict (next_rules height None x)) (sym here) ∙ e) in
+    sound_more height [] (node_of row) (and_from (leb 0 (2 ^ height)) true (le-leb 0 (2 ^ height) (omega arith)) refl) free

@@ -80,7 +80,7 @@ module _ (words height : ℕ) (ss : List Span) (room : 66 ≤ words) (some : 0 <
       pub made_sound : sound_rows height count rows ≡ true
       made_sound = ap (λ (x : List Node). sound height x) nodes ∙ cover-sound height (named_by ss) (spans_rows height ss) cover
 
-      pub accepted : {C : Type 0} (before after : Grant C) → after.height ≡ height → rows_of after ≡ take count rows → length (spans_rows height ss) ≤ 128 → Issues e height root ss words before (Ok tt) after
+      pub accepted : {C : Type 0} (before after : Grant C) → after.height.levels ≡ height → rows_of after ≡ take count rows → length (spans_rows height ss) ≤ 128 → Issues e height root ss words before (Ok tt) after
       accepted before after h same l = record {
         answers = λ ns c. let q = after_spans ns c in grind (arith, nat_tests);
         holds = λ z. record {

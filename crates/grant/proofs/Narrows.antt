@@ -58,21 +58,21 @@ above height keys s rs n c m = by (row_over rs (first_key n)) refl
 
 module _ {C : Type 0} (e : Encrypted) (words : ℕ) (s : Span) (g : Grant C) where
   -- a refusal leaves the grant as it was
-  refused : (why : Refusal) → ((rows : List Node) → Cover g.height (both (numbers_of g) (named s)) rows → Err why ≡ verdict (narrow_rules words g.height s (length rows))) → Narrows e s words g (Err why) g
+  refused : (why : Refusal) → ((rows : List Node) → Cover g.height.levels (both (numbers_of g) (named s)) rows → Err why ≡ verdict (narrow_rules words g.height.levels s (length rows))) → Narrows e s words g (Err why) g
   refused why a = record { answers = a; height = λ z. absurd (refused-ok z); rows = λ z. absurd (refused-ok z); seeds = λ z. absurd (refused-ok z); kept = λ m z. refl }
 
-  pub bound_fault : (why : Refusal) → 66 ≤ words → Err why ≡ verdict (bound_rules (2 ^ g.height) s) → Narrows e s words g (Err why) g
+  pub bound_fault : (why : Refusal) → 66 ≤ words → Err why ≡ verdict (bound_rules (2 ^ g.height.levels) s) → Narrows e s words g (Err why) g
   bound_fault why room f = refused why (λ rows d. grind (arith, nat_tests))
 
-module _ {C : Type 0} (e : Encrypted) (words : ℕ) (s : Span) (g : Grant C) (room : 66 ≤ words) (fine : Ok tt ≡ verdict (bound_rules (2 ^ g.height) s)) where
-  own : Cover g.height (numbers_of g) (nodes_of g)
-  own = sound-cover g.height (nodes_of g) g.sound
+module _ {C : Type 0} (e : Encrypted) (words : ℕ) (s : Span) (g : Grant C) (room : 66 ≤ words) (fine : Ok tt ≡ verdict (bound_rules (2 ^ g.height.levels) s)) where
+  own : Cover g.height.levels (numbers_of g) (nodes_of g)
+  own = sound-cover g.height.levels (nodes_of g) g.sound
 
-  left_covers : Cover g.height (both (numbers_of g) (named s)) (left_rows s (nodes_of g))
-  left_covers = left-cover g.height (numbers_of g) s (nodes_of g) own
+  left_covers : Cover g.height.levels (both (numbers_of g) (named s)) (left_rows s (nodes_of g))
+  left_covers = left-cover g.height.levels (numbers_of g) s (nodes_of g) own
 
-  same_count : (rows : List Node) → Cover g.height (both (numbers_of g) (named s)) rows → length rows ≡ length (left_rows s (nodes_of g))
-  same_count rows d = ap length (cover_unique g.height (both (numbers_of g) (named s)) rows (left_rows s (nodes_of g)) d left_covers)
+  same_count : (rows : List Node) → Cover g.height.levels (both (numbers_of g) (named s)) rows → length rows ≡ length (left_rows s (nodes_of g))
+  same_count rows d = ap length (cover_unique g.height.levels (both (numbers_of g) (named s)) rows (left_rows s (nodes_of g)) d left_covers)
 
   pub many_left : (why : Refusal) → why ≡ TooManyRows → 128 < length (left_rows s (nodes_of g)) → Narrows e s words g (Err why) g
   many_left why is l = refused e words s g why (λ rows d. let n = same_count rows d in ap Err is ∙ grind (arith, nat_tests))
@@ -86,8 +86,8 @@ module _ {C : Type 0} (e : Encrypted) (words : ℕ) (s : Span) (g : Grant C) (ro
       let n = get_or ns i d in
       let m = member_at ns i d h in
       let r = left_covers.row n m in
-      let a = above g.height (numbers_of g) s (rows_of g) n own m in
-      let high : g.height ≤ 32 = g.high in
+      let a = above g.height.levels (numbers_of g) s (rows_of g) n own m in
+      let high : g.height.levels ≤ 32 = g.height.fits in
       record {
         low = omega (arith, r.low);
         inside = omega (arith, r.inside, pow_mono high, first_past n);
@@ -98,25 +98,25 @@ module _ {C : Type 0} (e : Encrypted) (words : ℕ) (s : Span) (g : Grant C) (ro
     nodes : map node_of (take count rows) ≡ left_rows s (nodes_of g)
     nodes = ap (map node_of) made ∙ map_back (lowered e (rows_of g)) node_of (λ n. refl) (left_rows s (nodes_of g))
 
-    pub left-sound : sound_rows g.height count rows ≡ true
-    left-sound = ap (λ (x : List Node). sound g.height x) nodes ∙ cover-sound g.height (both (numbers_of g) (named s)) (left_rows s (nodes_of g)) left_covers
+    pub left-sound : sound_rows g.height.levels count rows ≡ true
+    left-sound = ap (λ (x : List Node). sound g.height.levels x) nodes ∙ cover-sound g.height.levels (both (numbers_of g) (named s)) (left_rows s (nodes_of g)) left_covers
 
     seed_above : (x : Row) → Memᴰ x (take count rows) → ComesFrom e (rows_of g) x
     seed_above x m =
         let q = from-map (lowered e (rows_of g)) (left_rows s (nodes_of g)) x (subst (λ (l : List Row). Memᴰ x l) made m) in
         let n = q.0 in
-        let a = above g.height (numbers_of g) s (rows_of g) n own q.1 in
+        let a = above g.height.levels (numbers_of g) s (rows_of g) n own q.1 in
         let y = a.row in
         let u = under_member (rows_of g) (first_key n) y a.found in
         subst (ComesFrom e (rows_of g)) (sym q.2)
         (y, u.0, u.1, a.level, ap (λ (o : Option Row). seed_from e o n) a.found)
 
-    pub narrowed_to : (after : Grant C) → after.height ≡ g.height → rows_of after ≡ take count rows → 0 < length (left_rows s (nodes_of g)) → length (left_rows s (nodes_of g)) ≤ 128 → Narrows e s words g (Ok tt) after
+    pub narrowed_to : (after : Grant C) → after.height.levels ≡ g.height.levels → rows_of after ≡ take count rows → 0 < length (left_rows s (nodes_of g)) → length (left_rows s (nodes_of g)) ≤ 128 → Narrows e s words g (Ok tt) after
     narrowed_to after h same some l =
         record {
           answers = λ ns d. let n = same_count ns d in grind (arith, nat_tests);
           height = λ z. h;
-          rows = λ z. subst (λ (x : List Node). Cover g.height (both (numbers_of g) (named s)) x) (sym (ap (map node_of) same ∙ nodes)) left_covers;
+          rows = λ z. subst (λ (x : List Node). Cover g.height.levels (both (numbers_of g) (named s)) x) (sym (ap (map node_of) same ∙ nodes)) left_covers;
           seeds = λ z x m. seed_above x (subst (λ (r : List Row). Memᴰ x r) same m);
           kept = λ m z. absurd (refused-ok (sym z));
         }

@@ -34,8 +34,8 @@ pub record Issues {C : Type 0} (e : Encrypted) (height : ℕ) (root : Block) (sp
 -- A narrow of any grant is judged by its rules, with the cover of the keys that are under the grant's rows and in the span. An accepted
 -- one leaves that cover, each row with its seed from the row above it; a refused one leaves the grant as it was.
 pub record Narrows {C : Type 0} (e : Encrypted) (span : Span) (words : ℕ) (before : Grant C) (answer : Answer) (after : Grant C) : Type 0 where
-  pub answers : (rows : List Node) → Cover before.height (both (numbers_of before) (named span)) rows → answer ≡ judged (narrow_rules words before.height span (length rows)) tt
-  pub height : answer ≡ Ok tt → after.height ≡ before.height
-  pub rows : answer ≡ Ok tt → Cover before.height (both (numbers_of before) (named span)) (nodes_of after)
+  pub answers : (rows : List Node) → Cover before.height.levels (both (numbers_of before) (named span)) rows → answer ≡ judged (narrow_rules words before.height.levels span (length rows)) tt
+  pub height : answer ≡ Ok tt → after.height.levels ≡ before.height.levels
+  pub rows : answer ≡ Ok tt → Cover before.height.levels (both (numbers_of before) (named span)) (nodes_of after)
   pub seeds : answer ≡ Ok tt → (x : Row) → Memᴰ x (rows_of after) → ComesFrom e (rows_of before) x
   pub kept : (why : Refusal) → answer ≡ Err why → after ≡ before

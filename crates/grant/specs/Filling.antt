@@ -14,12 +14,12 @@ use Rattle.grant.specs.Grants.{rows_of, nodes_of}
 
 -- The answer to the making of a grant, with the grant as its height and rows.
 abbrev pub grant_data : {C : Type 0} → Result (Grant C) Refusal → Result (ℕ × List Row) Refusal
-grant_data (Ok g) = Ok (g.height, rows_of g)
+grant_data (Ok g) = Ok (g.height.levels, rows_of g)
 grant_data (Err why) = Err why
 
 -- When a row more is refused: by its place in the tree and after the last row, and then by 7 when there are 128 rows.
 abbrev pub add_rules : {C : Type 0} → Grant C → Row → Rules
-add_rules g row = next_rules g.height (last_of None (nodes_of g)) (node_of row) ++ ((nat_le 128 (length (rows_of g)), TooManyRows) ∷ [])
+add_rules g row = next_rules g.height.levels (last_of None (nodes_of g)) (node_of row) ++ ((nat_le 128 (length (rows_of g)), TooManyRows) ∷ [])
 
 -- Whether a row is one of some tree and stands over the key.
 abbrev pub over : ℕ → Row → Bool

@@ -53,7 +53,7 @@ granted_keys e width made a = only a.numbers (tree_keys e width made a.height a.
 
 -- The rows of the grant are the cover of exactly the granted keys, each with the seed that its node has in the tree.
 pub record Holds {C : Type 0} (e : Encrypted) (a : Granted) (g : Grant C) : Type 0 where
-  pub height : g.height ≡ a.height
+  pub height : g.height.levels ≡ a.height
   pub rows : Cover a.height a.numbers (nodes_of g)
   pub seeds : (r : Row) → Memᴰ r (rows_of g) → r.seed ≡ walk e a.root (a.height - r.level) r.index
 

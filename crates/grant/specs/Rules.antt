@@ -1,16 +1,12 @@
 -- When a key tree, an issue and a narrow are refused, in order. Assumes nothing.
-use Rattle.std.specs.Prelude.{ℕ, ◌+◌, ◌^◌, not, ◌&&◌, List, [], ◌∷◌, ◌++◌, length, Result, ◌==◌, nat_le, nat_lt}
+use Rattle.std.specs.Prelude.{ℕ, ◌+◌, ◌^◌, List, [], ◌∷◌, ◌++◌, length, Result, ◌==◌, nat_le, nat_lt}
 use Rattle.refusal.specs.declared.Refusal.{Refusal}
-use Rattle.refusal.specs.declared.Refusal.TheVariants.{EmptySpan, SpanPastEnd, SpanNotAbove, NoSpans, TooManySpans, TooManyRows, Height, ShortScratch, NothingLeft}
+use Rattle.refusal.specs.declared.Refusal.TheVariants.{EmptySpan, SpanPastEnd, SpanNotAbove, NoSpans, TooManySpans, TooManyRows, ShortScratch, NothingLeft}
 use Rattle.refusal.specs.Judged.{Rules}
 use Rattle.cover.specs.declared.node.Span.{Span}
 
 abbrev pub Answer : Type 0
 Answer = Result (Unit {0}) Refusal
-
--- A tree: by 8 when the height is not one from 1 to 32.
-abbrev pub height_rules : ℕ → Rules
-height_rules height = (not (nat_le 1 height && nat_le height 32), Height) ∷ []
 
 -- One span: by 2 when it is empty, by 3 when it passes the limit.
 abbrev pub bound_rules : ℕ → Span → Rules

@@ -6,5 +6,5 @@ use Rattle.grant.specs.declared.key_tree.KeyTree.{KeyTree}
 
 -- The answer to the making of a tree, with the tree as its height and root.
 abbrev pub tree_data : {C : Type 0} → Result (KeyTree C) Refusal → Result (ℕ × Block) Refusal
-tree_data (Ok t) = Ok (t.height, t.root)
+tree_data (Ok t) = Ok (t.height.levels, t.root)
 tree_data (Err why) = Err why

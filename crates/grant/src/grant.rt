@@ -3,6 +3,7 @@ ghost use Rattle.std.specs.Prelude.{◌≡◌, ◌≤◌, true, length};
 ghost use Rattle.grant.specs.Rows.{sound_rows, BlankAfter};
 
 use cipher::Block;
+use cover::Height;
 pub use issuing::issue;
 pub use narrowing::narrow;
 pub use row::Row;
@@ -39,15 +40,13 @@ mod row {
 // Places and count stand here, and not as an `ArrayVec`, since no clause can speak of what stands behind the items of one.
 #[derive(Drop)]
 pub struct Grant<C> {
-    height: u32,
+    height: Height,
     count: usize,
     rows: [Row; 128],
     cipher: PhantomData<C>,
-    ghost low: { 1 ≤ height },
-    ghost high: { height ≤ 32 },
     ghost sized: { length rows ≡ 128 },
     ghost some: { 1 ≤ count },
     ghost fits: { count ≤ 128 },
-    ghost sound: { sound_rows height count rows ≡ true },
+    ghost sound: { sound_rows height.levels count rows ≡ true },
     ghost clear: { BlankAfter count rows },
 }

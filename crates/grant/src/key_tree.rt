@@ -1,7 +1,6 @@
 // Key trees: every key below a power of two, from one seed.
-ghost use Rattle.std.specs.Prelude.{◌≡◌, ◌≤◌};
-
 use cipher::Block;
+use cover::Height;
 use std::marker::PhantomData;
 
 mod keys;
@@ -9,9 +8,7 @@ mod keys;
 // A tree of seeds over 2^height keys, under one cipher.
 #[derive(Drop)]
 pub struct KeyTree<C> {
-    pub(crate) height: u32,
+    pub(crate) height: Height,
     pub(crate) root: Block,
     cipher: PhantomData<C>,
-    ghost some: { 1 ≤ height },
-    ghost fits: { height ≤ 32 },
 }

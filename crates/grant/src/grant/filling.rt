@@ -10,7 +10,7 @@ ghost use Rattle.grant.specs.Filling.{grant_data, add_rules, over, row_key};
 use super::{Grant, Row};
 use crate::descent::{figure, leaf};
 use cipher::{Block, Cipher};
-use cover::{Node, check_next};
+use cover::{Height, Node, check_after};
 use group::Group;
 use refusal::Refusal;
 use std::marker::PhantomData;
@@ -50,12 +50,9 @@ impl<C> Grant<C> {
     pub fn of_row(height: u32, row: Row) -> Result<Grant<C>, Refusal>
         ensures { grant_data result ≡ judged (check_rules height None (node_of row)) (height, row ∷ []) }
     {
-        check_next(height, None, row.node())?;
-        let mut rows = [Row {
-            level: 0,
-            index: 0,
-            seed: Block { high: 0, low: 0 },
-        }; 128];
+        let height = Height::new(height)?;
+        check_after(height, None, row.node())?;
+        let mut rows = [Row::BLANK; 128];
         rows[0] = row;
         Ok(Grant {
             height,
@@ -79,7 +76,7 @@ impl<C> Grant<C> {
         ensures rows { rows_of self.new ≡ left_by result (rows_of self.old) (rows_of self.old ++ (row ∷ [])) }
         ensures kept { (why : WhyRefused) → result ≡ Err why → self.new ≡ self.old }
     {
-        check_next(self.height, self.last_node(), row.node())?;
+        check_after(self.height, self.last_node(), row.node())?;
         if self.count == self.rows.len() {
             return Err(Refusal::TooManyRows);
         }

@@ -13,7 +13,7 @@ use crate::key_tree::KeyTree;
 use crate::scratch::{Path, Wiped};
 use crate::spans::check_spans;
 use cipher::{Block, Cipher};
-use cover::{Node, NodeList, Span};
+use cover::{Height, Node, NodeList, Span};
 use refusal::Refusal;
 
 // Each seed is walked to from the root.
@@ -21,23 +21,22 @@ impl<C: Cipher> SeedSource for KeyTree<C> {
     ghost use Rattle.std.specs.Prelude.{◌≤◌};
     ghost use Rattle.grant.specs.Grants.{seed_under};
 
-    ghost below = { λ t n. n.level ≤ t.height };
+    ghost below = { λ t n. n.level ≤ t.height.levels };
 
-    ghost seed = { λ t n. seed_under C.encrypted t.root t.height n };
+    ghost seed = { λ t n. seed_under C.encrypted t.root t.height.levels n };
 
     fn seed(&self, node: Node, path: &mut Path) -> Block {
-        descend::<C>(self.root, self.height - node.level, node.index, path)
+        descend::<C>(self.root, self.height.levels() - node.level, node.index, path)
     }
 }
 
 // The nodes of the spans, one span after the other, where there is room for all.
-fn cut_spans(height: u32, spans: &[Span]) -> Result<NodeList, Refusal>
-    requires { height ≤ 32 }
-    ensures { Lists result (spans_rows height spans.now) }
+fn cut_spans(height: Height, spans: &[Span]) -> Result<NodeList, Refusal>
+    ensures { Lists result (spans_rows height.levels spans.now) }
 {
     let mut nodes = NodeList::new();
     let root = Node {
-        level: height,
+        level: height.levels(),
         index: 0,
     };
     for span in spans {
@@ -54,7 +53,7 @@ fn issue_with<C: Cipher>(
     scratch: &mut [u64],
     grant: &mut Grant<C>,
 ) -> Result<(), Refusal>
-    ensures { Issues C.encrypted tree.now.height tree.now.root spans.now (length scratch.old) grant.old result grant.new }
+    ensures { Issues C.encrypted tree.now.height.levels tree.now.root spans.now (length scratch.old) grant.old result grant.new }
 {
     let Some(path) = scratch.first_chunk_mut::<66>() else {
         return Err(Refusal::ShortScratch);
@@ -82,8 +81,8 @@ pub fn issue<C: Cipher>(
     scratch: &mut [u64],
     grant: &mut Grant<C>,
 ) -> Result<(), Refusal>
-    ensures does { Issues C.encrypted tree.now.height tree.now.root spans.now (length scratch.old) grant.old result grant.new }
-    ensures lawful { Continues C.encrypted grant.old (issued tree.now.height tree.now.root spans.now (length scratch.old) result) grant.new }
+    ensures does { Issues C.encrypted tree.now.height.levels tree.now.root spans.now (length scratch.old) grant.old result grant.new }
+    ensures lawful { Continues C.encrypted grant.old (issued tree.now.height.levels tree.now.root spans.now (length scratch.old) result) grant.new }
     ensures covers { CoverIsOne }
     ensures wiped { scratch.new ≡ replicate (length scratch.old) 0 }
 {

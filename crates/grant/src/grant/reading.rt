@@ -6,7 +6,8 @@ ghost use Rattle.grant.specs.Grants.{rows_of, nodes_of, numbers_of, row_over, gr
 ghost use Rattle.grant.specs.Histories.{KeepsTo};
 
 use super::{Grant, Row};
-use cipher::{Block, Cipher};
+use cipher::Cipher;
+use cover::Height;
 use group::Group;
 use source::KeySource;
 use std::marker::PhantomData;
@@ -14,28 +15,24 @@ use std::marker::PhantomData;
 impl<C> Grant<C> {
     // A first grant, to be filled: height 1, and row (0, 0) with seed zero.
     pub fn first() -> Grant<C>
-        ensures height { result.height ≡ 1 }
+        ensures height { result.height.levels ≡ 1 }
         ensures rows { rows_of result ≡ zero_row ∷ [] }
     {
         Grant {
-            height: 1,
+            height: Height::LOWEST,
             count: 1,
-            rows: [Row {
-                level: 0,
-                index: 0,
-                seed: Block { high: 0, low: 0 },
-            }; 128],
+            rows: [Row::BLANK; 128],
             cipher: PhantomData,
         }
     }
 
     // The height of the tree that the rows lie in.
     pub fn height(&self) -> u32
-        ensures is { result ≡ self.now.height }
+        ensures is { result ≡ self.now.height.levels }
         ensures some { 1 ≤ result }
         ensures limit { result ≤ 32 }
     {
-        self.height
+        self.height.levels()
     }
 
     // The rows, which are the cover of the keys under them.
@@ -43,7 +40,7 @@ impl<C> Grant<C> {
         ensures is { result.now ≡ rows_of self.now }
         ensures some { 1 ≤ length result.now }
         ensures few { length result.now ≤ 128 }
-        ensures cover { Cover self.now.height (numbers_of self.now) (nodes_of self.now) }
+        ensures cover { Cover self.now.height.levels (numbers_of self.now) (nodes_of self.now) }
     {
         &self.rows[..self.count]
     }

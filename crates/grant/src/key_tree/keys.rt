@@ -1,13 +1,14 @@
 // Making a key tree, and its keys.
 ghost use Rattle.std.specs.Prelude.{◌≡◌};
 ghost use Rattle.refusal.specs.Judged.{judged};
-ghost use Rattle.grant.specs.Rules.{height_rules};
+ghost use Rattle.cover.specs.Heights.{height_rules};
 ghost use Rattle.grant.specs.Seeds.{tree_keys};
 ghost use Rattle.grant.specs.Trees.{tree_data};
 
 use super::KeyTree;
 use crate::grant::Row;
 use cipher::{Block, Cipher};
+use cover::Height;
 use group::Group;
 use refusal::Refusal;
 use source::KeySource;
@@ -18,11 +19,8 @@ impl<C> KeyTree<C> {
     pub fn new(height: u32, root: Block) -> Result<KeyTree<C>, Refusal>
         ensures { tree_data result ≡ judged (height_rules height) (height, root) }
     {
-        if !(1..=32).contains(&height) {
-            return Err(Refusal::Height);
-        }
         Ok(KeyTree {
-            height,
+            height: Height::new(height)?,
             root,
             cipher: PhantomData,
         })
@@ -31,11 +29,11 @@ impl<C> KeyTree<C> {
 
 // It has the keys below 2^height, which are those of its root's row.
 impl<G: Group, C: Cipher> KeySource<G> for KeyTree<C> {
-    ghost keys = { λ t. tree_keys C.Cipher.encrypted G.Group.width G.Group.made t.height t.root };
+    ghost keys = { λ t. tree_keys C.Cipher.encrypted G.Group.width G.Group.made t.height.levels t.root };
 
     fn key(&self, number: u64) -> Option<G> {
         let root = Row {
-            level: self.height,
+            level: self.height.levels(),
             index: 0,
             seed: self.root,
         };

@@ -1,8 +1,14 @@
-use Rattle.std.proofs.Common.{◌∙◌}
+use Rattle.std.proofs.Common.{ℕ, ap, ◌∙◌}
+use Rattle.grant.specs.Filling.{row_key}
 use Rattle.grant.proofs.Keyed.{root_key}
 use Rattle.grant.proofs.key_tree.keys.KeyTreeKeySource.key.Goals as goal
 
 pub returns : goal.returns
 returns g c =
     let tree = c.args.self.now in
-    c.key.ensures ∙ root_key g.C.Cipher.encrypted g.G.Group.width g.G.Group.made c.args.number tree.height tree.root tree.fits
+    let e = g.C.Cipher.encrypted in
+    let width = g.G.Group.width in
+    let made = g.G.Group.made in
+    c.key.ensures
+    ∙ ap (λ (n : ℕ). row_key e width made (record { level = n; index = 0; seed = tree.root }) c.args.number) c.levels.ensures
+    ∙ root_key e width made c.args.number tree.height.levels tree.root tree.height.fits
