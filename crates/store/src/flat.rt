@@ -3,7 +3,8 @@ ghost use Rattle.std.specs.Prelude.{◌≤◌, length};
 
 pub mod calls;
 
-// Figures stand in the first cells, one to a cell.
+// Figures stand in the first cells, one to a cell. The library takes no heap, so the cells are lent, and `used` counts those in
+// use.
 #[derive(Drop)]
 pub struct FlatStore<'a, G> {
     cells: &'a mut [G],

@@ -1,7 +1,8 @@
 -- New trees. Assumes nothing.
-use Rattle.std.proofs.Common.{◌≡◌, ℕ, ◌+◌, ◌*◌, ◌^◌, ◌<◌, ◌≤◌, List, [], ◌∷◌, ◌++◌, length, get_or, take, drop, set, replicate, sym, ap, ◌∙◌, arith, length-append, length-drop}
+use Rattle.std.proofs.Common.{◌≡◌, ℕ, ◌+◌, ◌*◌, ◌^◌, ◌<◌, ◌≤◌, List, [], ◌∷◌, ◌++◌, length, take, drop, replicate, sym, refl, ap, ◌∙◌, arith, length-append, length-drop}
+use Rattle.std.specs.List.{FoldsTo}
 use lib.ListN.{length-replicate}
-use Rattle.std.proofs.lemmas.List.{get_or_append_left, get_or-replicate, set_at, length-take-le, drop_more, replicate_more, append_assoc}
+use Rattle.std.proofs.lemmas.List.{get_or_append_left, get_or-replicate, length-take-le}
 use Rattle.group.specs.Kind.{Kind, sum}
 use Rattle.tree_store.specs.Levels.{level_start}
 use Rattle.tree_store.specs.Cells.{cleared}
@@ -11,22 +12,19 @@ use Rattle.tree_store.proofs.Parts.{between-beyond}
 use Rattle.tree_store.proofs.Places.{Sound}
 use Rattle.tree_store.proofs.Shapes.{plan_cells}
 
--- one more cell is cleared
-pub cleared_more : {G : Type 0} (none : G) (cells now : List G) (i : ℕ) (x : G) → i < length cells → now ≡ cleared none i cells → x ≡ none → set now i x ≡ cleared none (i + 1) cells
-cleared_more none cells now i x lt is e =
-    let whole : now ≡ replicate i none ++ (get_or cells i none ∷ drop (i + 1) cells) = is ∙ ap (λ (r : List _). replicate i none ++ r) (drop_more cells i none lt) in
-    ap (λ (c : List _). set c i x) whole
-    ∙ set_at (replicate i none) (get_or cells i none) (drop (i + 1) cells) x i (length-replicate i none)
-    ∙ ap (λ y. replicate i none ++ (y ∷ drop (i + 1) cells)) e
-    ∙ sym (append_assoc (replicate i none) (none ∷ []) (drop (i + 1) cells))
-    ∙ ap (λ (c : List _). c ++ drop (i + 1) cells) (replicate_more i none)
-
 pub cleared-long : {G : Type 0} (none : G) (count : ℕ) (cells : List G) → count ≤ length cells → length (cleared none count cells) ≡ length cells
 cleared-long none count cells h =
     let long = length-append (replicate count none) (drop count cells) in
     let front = length-replicate count none in
     let back = length-drop count cells in
     omega arith
+
+-- cells that are filled by a closure which gives the same each time
+pub filled_with : {G F : Type 0} (step : F → G → F → Type 0) (none : G) (keep : F → Type 0) (each : (f g : F) (x : G) → keep f → step f x g → (x ≡ none) × keep g) (xs : List G) (f g : F) → keep f → FoldsTo step f xs g → xs ≡ replicate (length xs) none
+filled_with step none keep each [] f g now ran = refl
+filled_with step none keep each (x ∷ xs) f g now ran =
+    let here = each f ran.0 x now ran.1 in
+    λ i. here.0 i ∷ filled_with step none keep each xs ran.0 g here.1 ran.2 i
 
 -- where the first cells are all cleared
 pub cleared_front : {G : Type 0} (none : G) (count : ℕ) (cells front : List G) → count ≤ length cells → front ≡ replicate (length (take count cells)) none → front ++ drop count cells ≡ cleared none count cells

@@ -8,7 +8,7 @@ mod walk;
 use crate::shape::Shape;
 
 // The levels follow one another in the cells, the lowest first: it has the figures, one to a cell, and every cell of a
-// level above has the sum of a block of them.
+// level above has the sum of a block of them. The library takes no heap, so the cells are lent, and `used` counts those in use.
 #[derive(Drop)]
 pub struct TreeStore<'a, G> {
     cells: &'a mut [G],

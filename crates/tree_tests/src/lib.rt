@@ -41,6 +41,10 @@ mod tests {
         assert_eq!(rt; needed(2, 1, 0), Err(11));
     }
 
+    fn plan(fan_out: usize, capacity: usize, cells: usize) -> Result<Plan, Fail> {
+        Plan::new(fan_out, capacity, cells).map_err(|_| Fail::new("plan"))
+    }
+
     // The figures from 1 to n.
     fn triangle(n: u64) -> u64 {
         n.wrapping_mul(n.wrapping_add(1)) / 2
@@ -48,9 +52,7 @@ mod tests {
 
     #[test]
     fn ten_figures(rt: HostRuntime) -> Result<(), Fail> {
-        let Ok(plan) = Plan::new(4, 10, 15) else {
-            return Err(Fail::new("plan"));
-        };
+        let plan = plan(4, 10, 15)?;
         assert_eq!(rt; plan.levels(), 3);
         let mut cells = [count(7); 15];
         {
@@ -80,9 +82,7 @@ mod tests {
 
     #[test]
     fn too_few_cells(rt: HostRuntime) -> Result<(), Fail> {
-        let Ok(plan) = Plan::new(4, 10, 14) else {
-            return Err(Fail::new("plan"));
-        };
+        let plan = plan(4, 10, 14)?;
         let mut cells = [count(7); 13];
         {
             let mut store = TreeStore::new(plan, &mut cells);
@@ -98,9 +98,7 @@ mod tests {
 
     #[test]
     fn kinds(rt: HostRuntime) -> Result<(), Fail> {
-        let Ok(plan) = Plan::new(2, 2, 3) else {
-            return Err(Fail::new("plan"));
-        };
+        let plan = plan(2, 2, 3)?;
         let keys = [count(10), count(3), count(20)];
         let source = KeyList { keys: &keys };
         assert_eq!(rt;
@@ -118,17 +116,16 @@ mod tests {
         );
         let keys = [Flags { bits: 12 }, Flags { bits: 10 }, Flags { bits: 6 }];
         let (x, y) = (Flags { bits: 1 }, Flags { bits: 3 });
-        let Ok(flags) = two_tree(plan, KeyList { keys: &keys }, &mut [x; 3], x, y) else {
-            return Err(Fail::new("flags"));
-        };
+        let flags = two_tree(plan, KeyList { keys: &keys }, &mut [x; 3], x, y).map_err(
+            |_| Fail::new("flags"),
+        )?;
         assert_eq!(rt; flags.bits, 2);
-        let (Ok(x), Ok(y)) = (Moments::parcel(3), Moments::parcel(2147483647)) else {
-            return Err(Fail::new("parcels"));
-        };
+        let x = Moments::parcel(3).map_err(|_| Fail::new("parcels"))?;
+        let y = Moments::parcel(2147483647).map_err(|_| Fail::new("parcels"))?;
         let keys = [x, y, x];
-        let Ok(moments) = two_tree(plan, KeyList { keys: &keys }, &mut [x; 3], x, y) else {
-            return Err(Fail::new("moments"));
-        };
+        let moments = two_tree(plan, KeyList { keys: &keys }, &mut [x; 3], x, y).map_err(
+            |_| Fail::new("moments"),
+        )?;
         assert_eq!(rt; moments.count, 2);
         assert_eq!(rt; moments.sum, 2147483650);
         assert_eq!(rt; moments.squares, 4611686014132420618);

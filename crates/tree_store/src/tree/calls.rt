@@ -1,5 +1,5 @@
 // What a tree does.
-ghost use Rattle.std.specs.Prelude.{◌≡◌, ◌≤◌, true, false, length, replicate, is_ok};
+ghost use Rattle.std.specs.Prelude.{◌≡◌, ◌≤◌, true, false, length, is_ok};
 ghost use Rattle.refusal.specs.Judged.{judged, left_by};
 ghost use Rattle.store.specs.Contents.{empty, push, put_rules};
 ghost use Rattle.tree_store.specs.Cells.{Entered};
@@ -12,15 +12,6 @@ use crate::shape::Shape;
 use group::Group;
 use refusal::Refusal;
 use store::{Store, check_span};
-
-// Sets the cells to zero.
-fn clear<G: Group>(cells: &mut [G])
-    ensures { cells.new ≡ replicate (length cells.old) G.Group.kind.zero }
-{
-    for cell in cells.iter_mut() {
-        *cell = G::identity();
-    }
-}
 
 impl<'a, G: Group> TreeStore<'a, G> {
     // A tree over the first cells, as many as the plan needs. Over fewer cells it has no place for a figure.
@@ -44,7 +35,9 @@ impl<'a, G: Group> TreeStore<'a, G> {
                 used: 0,
             };
         }
-        clear(&mut cells[..plan.cells]);
+        // `fill` would ask that a clone cannot fail, which a kind of figure does not say.
+        let none = G::identity();
+        cells[..plan.cells].fill_with(|| none);
         TreeStore {
             cells,
             shape: plan.shape,
