@@ -1,10 +1,10 @@
 -- What follows, for two appends and an open, from the laws of each. Assumes nothing.
-use Rattle.std.proofs.Common.{◌≡◌, ℕ, ◌<◌, ◌≤◌, min, true, leb, ◌↔◌, List, [], ◌∷◌, length, is_some, is_ok, Some, None, Ok, Err, Result, sym, ap, ◌∙◌, inl, inr, arith}
-use Rattle.std.proofs.lemmas.Bool.{false≢true, not-false, not_from_true, leb-false, lt-leb, cases_lt}
-use Rattle.refusal.specs.Judged.{Rules, first, refusal}
+use Rattle.std.proofs.Common.{◌≡◌, ℕ, ◌<◌, ◌≤◌, min, true, leb, ◌↔◌, List, [], ◌∷◌, length, is_some, is_ok, Some, None, Ok, Result, sym, ap, ◌∙◌, inl, inr, arith}
+use Rattle.std.proofs.lemmas.Bool.{false≢true, not-false, leb-false, cases_lt}
+use Rattle.refusal.specs.Judged.{Rules, first}
 use Rattle.refusal.specs.declared.Refusal.{Refusal}
 use Rattle.refusal.specs.declared.Refusal.TheVariants.{Full, NoKeyAfter}
-use Rattle.refusal.proofs.Judging.{answered, clear, unrefused, first_stays, first_passes, refusal-judged, judged-refused, judged-passed}
+use Rattle.refusal.proofs.Judging.{answered, clear, first_passes}
 use Rattle.group.specs.Kind.{Kind}
 use Rattle.group.proofs.Algebra.{unit-right}
 use Rattle.store.specs.Contents.{nth}
@@ -12,7 +12,7 @@ use Rattle.store.proofs.Rows.{nth-within, nth_past}
 use Rattle.source.specs.Sources.{Keys, Has, Agree, lacks}
 use Rattle.sealing.specs.Calls.{append_rules}
 use Rattle.sealing.specs.History.{AppendLaw, OpenLaw}
-use Rattle.clients.specs.Two.{two_rules, SumOfTwo, first_answer, second_answer}
+use Rattle.clients.specs.Two.{two_rules, SumOfTwo}
 
 module _ {G V : Type 0} (k : Kind G V) (keys : Keys G) (places : ℕ) (x y : G) where
   free : first (two_rules keys places) ≡ None → (2 ≤ places) × Has keys 0 × Has keys 1 × Has keys 2
@@ -20,28 +20,9 @@ module _ {G V : Type 0} (k : Kind G V) (keys : Keys G) (places : ℕ) (x y : G) 
       let q = clear (two_rules keys places) p in
       (leb-false places 1 q.1.1.1.0, not-false _ q.1.0, not-false _ q.1.1.0, not-false _ q.1.1.1.1.0)
 
-  freed : (2 ≤ places) × Has keys 0 × Has keys 1 × Has keys 2 → first (two_rules keys places) ≡ None
-  freed h =
-      unrefused (two_rules keys places)
-      (lt-leb places 0 (omega (arith, h.0)), (not_from_true _ h.1, (not_from_true _ h.2, (lt-leb places 1 h.0, (not_from_true _ h.3, tt)))))
-
-  summed : (answer : Result G Refusal) → refusal answer ≡ first (two_rules keys places) → ((v : G) → answer ≡ Ok v → k.value v ≡ k.sums.plus (k.value x) (k.value y)) → SumOfTwo k keys places x y answer
-  summed answer why figure = record {
-    answered = (λ ok. free (sym why ∙ (answered answer).0 ok), λ h. (answered answer).1 (why ∙ freed h));
-    refuses = why;
-    figure = figure;
-  }
-
-  refused : {e : Refusal} → Some e ≡ first (two_rules keys places) → SumOfTwo k keys places x y (Err e)
-  refused why = summed (Err _) why (λ v is. absurd (let z : ◌≡◌ {A = ℕ} 0 1 = cc in omega arith))
-
   -- What is left to rule out once the first append is accepted.
   abbrev later : Rules
   later = (leb places 1, Full) ∷ (lacks keys 2, NoKeyAfter) ∷ []
-
-  -- The first append refused.
-  pub first-refused : {e : Refusal} → AppendLaw keys places 0 (Err e) → SumOfTwo k keys places x y (Err e)
-  first-refused law = refused (sym (first_stays (append_rules keys places 0) later (sym law.refuses)))
 
   -- Once the first is accepted, key 1 is there, and what is left of the rules is the second append's.
   rest : {n : ℕ} → AppendLaw keys places 0 (Ok n) → first (two_rules keys places) ≡ first (append_rules keys places 1)
@@ -50,9 +31,6 @@ module _ {G V : Type 0} (k : Kind G V) (keys : Keys G) (places : ℕ) (x y : G) 
       let here = q.1.1.0 in
       first_passes (append_rules keys places 0) later (sym law.refuses) ∙ sym (rw here)
 
-  pub second-refused : {n : ℕ} {e : Refusal} → AppendLaw keys places 0 (Ok n) → AppendLaw keys places 1 (Err e) → SumOfTwo k keys places x y (Err e)
-  second-refused one two = refused (two.refuses ∙ sym (rest one))
-
   -- Both are accepted, so the open is answered.
   pub both-accepted : {n m : ℕ} (answer : Result G Refusal) → AppendLaw keys places 0 (Ok n) → AppendLaw keys places 1 (Ok m) → OpenLaw k keys keys (x ∷ y ∷ []) 0 2 answer → SumOfTwo k keys places x y answer
   both-accepted answer one two law =
@@ -60,23 +38,11 @@ module _ {G V : Type 0} (k : Kind G V) (keys : Keys G) (places : ℕ) (x y : G) 
       let has = free none in
       let ok : is_ok answer ≡ true = law.answers.1 (omega arith, omega arith, has.1, has.3) in
       let agree : Agree k keys keys = λ i a b p q. let both : Some a ≡ Some b = sym p ∙ q in let one : a ≡ b = cc in ap k.value one in
-      summed answer ((answered answer).0 ok ∙ sym none)
-      (λ v is. law.figure agree v is ∙ ap (k.sums.plus (k.value x)) (unit-right k.sums (k.value y)))
-
-  -- What the second answer is on each way.
-  pub second-not : {answer : Result G Refusal} {e : Refusal} → answer ≡ Err e → SumOfTwo k keys places x y answer → second_answer keys places ≡ Err e
-  second-not is s = judged-refused (two_rules keys places) 1 (sym s.refuses ∙ ap refusal is)
-
-  pub second_is : {n m : ℕ} → AppendLaw keys places 0 (Ok n) → AppendLaw keys places 1 (Ok m) → second_answer keys places ≡ Ok 1
-  second_is one two = judged-passed (two_rules keys places) 1 (rest one ∙ sym two.refuses)
-
--- Where the second is answered, so was the first.
-pub second-after-first : {G : Type 0} (keys : Keys G) (places : ℕ) → is_ok (second_answer keys places) ≡ true → is_ok (first_answer keys places) ≡ true
-second-after-first keys places ok =
-    let none : first (two_rules keys places) ≡ None = sym (refusal-judged (two_rules keys places) 1) ∙ (answered (second_answer keys places)).0 ok in
-    let q = clear (two_rules keys places) none in
-    let free = unrefused (append_rules keys places 0) (q.0, (q.1.0, (q.1.1.0, tt))) in
-    ap is_ok (judged-passed (append_rules keys places 0) 0 free)
+      record {
+        answered = (λ done. has, λ h. ok);
+        refuses = (answered answer).0 ok ∙ sym none;
+        figure = λ v is. law.figure agree v is ∙ ap (k.sums.plus (k.value x)) (unit-right k.sums (k.value y));
+      }
 
 -- A list has key i exactly when it is longer than i.
 module _ {G : Type 0} (keys : List G) where

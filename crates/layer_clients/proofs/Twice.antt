@@ -1,17 +1,14 @@
 -- Two posts into a new store. Assumes nothing.
-use Rattle.std.proofs.Common.{◌≡◌, ℕ, ◌*◌, ◌/◌, ◌%◌, ◌<◌, ◌≤◌, min, ◌↔◌, List, [], ◌∷◌, length, set, is_some, Some, Ok, Err, Result, sym, refl, ap, ◌∙◌, subst, arith}
+use Rattle.std.proofs.Common.{◌≡◌, ℕ, ◌*◌, ◌/◌, ◌%◌, ◌<◌, ◌≤◌, ◌↔◌, [], ◌∷◌, is_some, Some, Ok, Err, Result, sym, refl, ap, ◌∙◌, subst, arith}
 use native.Mathlib.Nat.{mod_self, div_self}
 use Rattle.std.proofs.lemmas.Bool.{false≢true}
-use Rattle.refusal.specs.Judged.{judged, left_by}
 use Rattle.refusal.specs.declared.Refusal.{Refusal}
 use Rattle.group.specs.Kind.{Kind}
-use Rattle.store.specs.Contents.{Contents, empty}
+use Rattle.store.specs.Contents.{Contents}
 use Rattle.source.specs.Sources.{Keys, Has, or_zero, key}
 use Rattle.layers.specs.Layers.{coarse}
-use Rattle.layers.specs.Posting.{Posts, post_rules, envelope}
+use Rattle.layers.specs.Posting.{Posts}
 use Rattle.layers.specs.Fit.{PostLaw, start, accepted_posts, Continues}
-use Rattle.layers.proofs.Fitting.{held}
-use Rattle.layer_clients.specs.Readers.{twice}
 
 module _ {G : Type 0} (step : ℕ) (fine other : Keys G) (capacity : ℕ) where
   -- Both posts are accepted.
@@ -63,32 +60,3 @@ module _ {G V : Type 0} (k : Kind G V) (step : ℕ) (fine other : Keys G) where
         let two = r (a ∷ []) one.0 in
         let figure : key k (coarse k step after.entries other) step ≡ x = ap (or_zero k) is in
         sym (ap k.value figure) ∙ (two.2.counts step (ap is_some is)).1
-
--- Cells after two writes, each made or left out.
-module _ {G : Type 0} (post : ℕ → Result ℕ Refusal) (new : ℕ → G) where
-  cells-twice : (a b : Result ℕ Refusal) (xs ys zs : List G) (n : ℕ) → n ≡ accepted_posts (a ∷ []) → a ≡ post 0 → b ≡ post n → ys ≡ left_by a xs (set xs 0 (new 0)) → zs ≡ left_by b ys (set ys n (new n)) →
-      zs ≡ left_by (post 0) xs (left_by (post 1) (set xs 0 (new 0)) (set (set xs 0 (new 0)) 1 (new 1)))
-  cells-twice (Ok i) b xs ys zs n is p q e f =
-      let one = set xs 0 (new 0) in
-      let last : zs ≡ left_by (post 1) one (set one 1 (new 1)) =
-      f ∙ ap (λ r. left_by r ys (set ys n (new n))) q ∙ (λ t. left_by (post (is t)) (e t) (set (e t) (is t) (new (is t)))) in
-      last ∙ ap (λ r. left_by r xs (left_by (post 1) one (set one 1 (new 1)))) p
-  cells-twice (Err d) b xs ys zs n is p q e f =
-      let same : b ≡ Err d = q ∙ ap post is ∙ sym p in
-      f ∙ ap (λ r. left_by r ys (set ys n (new n))) same ∙ e ∙ ap (λ r. left_by r xs (left_by (post 1) (set xs 0 (new 0)) (set (set xs 0 (new 0)) 1 (new 1)))) p
-
-module _ {G V : Type 0} (k : Kind G V) (step : ℕ) (fine other : Keys G) where
-  pub posted-cells : {before between after : Contents G} {a b : Result ℕ Refusal} (xs ys zs : List G) → before ≡ empty (min (length xs) 1048576) →
-      Posts k step fine other before a between → Posts k step fine other between b after → Continues k step fine other before a between →
-      ys ≡ left_by a xs (set xs (length before.entries) (envelope k step fine other (length before.entries))) →
-      zs ≡ left_by b ys (set ys (length between.entries) (envelope k step fine other (length between.entries))) →
-      zs ≡ twice k step fine other xs
-  posted-cells {before} {between} {a = a} {b = b} xs ys zs made p q run e f =
-      let n = length between.entries in
-      let new : before.entries ≡ [] = ap (λ c. c.entries) made in
-      let room : between.capacity ≡ min (length xs) 1048576 = same_capacity k step fine other a p ∙ ap (λ c. c.capacity) made in
-      let post : ℕ → Result ℕ Refusal = λ j. judged (post_rules step fine other (min (length xs) 1048576) j) j in
-      let first : a ≡ post 0 = p.answers ∙ ap (λ c. judged (post_rules step fine other c.capacity (length c.entries)) (length c.entries)) made in
-      let last : b ≡ post n = q.answers ∙ ap (λ m. judged (post_rules step fine other m n) n) room in
-      let one : ys ≡ left_by a xs (set xs 0 (envelope k step fine other 0)) = e ∙ ap (λ c. left_by a xs (set xs (length c.entries) (envelope k step fine other (length c.entries)))) made in
-      cells-twice post (envelope k step fine other) a b xs ys zs n (held k step (run [] (start before new)).0).count first last one f
