@@ -42,7 +42,7 @@ impl From<Block> for Words {
 impl From<Words> for Block {
     ghost from_gives = { λ s b. b ≡ block_of_state (state_of_words s) };
 
-    #[tactic(auto, using(crate::proofs::Bridge::word_column), unfolding(crate::specs::Aes::block_of_state))]
+    #[tactic(auto, using(crate::proofs::Bridge::columns), unfolding(crate::specs::Aes::block_of_state))]
     fn from(s: Words) -> Block {
         Block {
             high: s.c0 as u64 * 0x1_0000_0000 + s.c1 as u64,
@@ -56,7 +56,7 @@ impl BitXor for Words {
 
     ghost bitxor_gives = { λ a b s. state_of_words s ≡ xor_state (state_of_words a) (state_of_words b) };
 
-    #[tactic(auto, using(crate::proofs::Bridge::column_xor))]
+    #[tactic(auto, using(crate::proofs::Bridge::columns))]
     fn bitxor(self, rhs: Words) -> Words {
         Words {
             c0: self.c0 ^ rhs.c0,
@@ -110,7 +110,7 @@ fn mixed_column(a: u32, b: u32, c: u32, d: u32) -> u32
 }
 
 // The same in the last round, which does not mix.
-#[tactic(auto, using(crate::proofs::Bridge::column_bytes), unfolding(crate::specs::Aes::sub_column, crate::specs::Aes::diagonal))]
+#[tactic(auto, using(crate::proofs::Bridge::columns), unfolding(crate::specs::Aes::sub_column, crate::specs::Aes::diagonal))]
 fn last_column(a: u32, b: u32, c: u32, d: u32) -> u32
     ensures { column result ≡ diagonal (sub_column (column a)) (sub_column (column b)) (sub_column (column c)) (sub_column (column d)) }
 {
@@ -131,7 +131,7 @@ fn last_round(s: Words) -> Words
 }
 
 // The last word of a round key, its bytes rotated one place left and put through the S-box, the first xored with the constant.
-#[tactic(auto, using(crate::proofs::Bridge::column_bytes), unfolding(crate::specs::Aes::column, crate::specs::Aes::rot_sub))]
+#[tactic(auto, using(crate::proofs::Bridge::columns), unfolding(crate::specs::Aes::column, crate::specs::Aes::rot_sub))]
 fn rotated(u: u32, constant: u8) -> u32
     ensures { column result ≡ rot_sub constant (column u) }
 {
@@ -139,7 +139,7 @@ fn rotated(u: u32, constant: u8) -> u32
     u32::from_be_bytes([sub(b) ^ constant, sub(c), sub(d), sub(a)])
 }
 
-#[tactic(auto, using(crate::proofs::Bridge::column_xor))]
+#[tactic(auto, using(crate::proofs::Bridge::columns))]
 fn next_key(k: Words, constant: u8) -> Words
     ensures { state_of_words result ≡ next_key constant (state_of_words k) }
 {
