@@ -6,8 +6,8 @@ ghost use Rattle.cover.specs.Listed.{Lists};
 ghost use Rattle.grant.specs.Calls.{Issues};
 ghost use Rattle.grant.specs.Histories.{Continues, issued};
 
+use super::Grant;
 use super::seeding::{SeedSource, seed_rows};
-use super::{Grant, Row};
 use crate::descent::descend;
 use crate::key_tree::KeyTree;
 use crate::scratch::{Path, Wiped};
@@ -68,7 +68,6 @@ fn issue_with<C: Cipher>(
     check_spans(tree.height, spans)?;
     let list = cut_spans(tree.height, spans)?;
     let nodes = list.as_slice();
-    grant.rows.fill(Row::BLANK);
     seed_rows(tree, nodes, path, &mut grant.rows);
     grant.height = tree.height;
     grant.count = nodes.len();
