@@ -1,5 +1,5 @@
 // Issuing a grant.
-ghost use Rattle.std.specs.Prelude.{◌≡◌, ◌≤◌, length, replicate};
+ghost use Rattle.std.specs.Prelude.{◌≡◌, length, replicate};
 ghost use Rattle.cover.specs.Tree.{CoverIsOne};
 ghost use Rattle.cover.specs.Cut.{spans_rows};
 ghost use Rattle.cover.specs.Listed.{Lists};
@@ -30,20 +30,21 @@ impl<C: Cipher> SeedSource for KeyTree<C> {
     }
 }
 
-// The nodes of the spans, one span after the other, where there is room for all.
-fn cut_spans(height: u32, spans: &[Span]) -> Result<NodeList, Refusal>
-    requires { height ≤ 32 }
-    ensures { Lists result (spans_rows height spans.now) }
-{
-    let mut nodes = NodeList::new();
-    let root = Node {
-        level: height,
-        index: 0,
-    };
-    for span in spans {
-        nodes.cut(root, *span)?;
+impl<C> KeyTree<C> {
+    // The nodes of the spans, one span after the other, where there is room for all.
+    fn cut_spans(&self, spans: &[Span]) -> Result<NodeList, Refusal>
+        ensures { Lists result (spans_rows self.now.height spans.now) }
+    {
+        let mut nodes = NodeList::new();
+        let root = Node {
+            level: self.height,
+            index: 0,
+        };
+        for span in spans {
+            nodes.cut(root, *span)?;
+        }
+        Ok(nodes)
     }
-    Ok(nodes)
 }
 
 // All the ways out of an issue, over scratch that the caller wipes. The rows go straight into the grant, so that no other memory has all
@@ -66,7 +67,7 @@ fn issue_with<C: Cipher>(
         return Err(Refusal::TooManySpans);
     }
     check_spans(tree.height, spans)?;
-    let list = cut_spans(tree.height, spans)?;
+    let list = tree.cut_spans(spans)?;
     let nodes = list.as_slice();
     seed_rows(tree, nodes, path, &mut grant.rows);
     grant.height = tree.height;
