@@ -8,7 +8,7 @@ use crate::node::{Node, Span};
 use refusal::Refusal;
 
 // The first key under a node.
-fn first_key(level: u32, index: u64) -> u64
+pub(crate) fn first_key(level: u32, index: u64) -> u64
     requires low { level ≤ 32 }
     requires inside { index * 2 ^ level ≤ 2 ^ 32 }
     ensures { result ≡ index * 2 ^ level }

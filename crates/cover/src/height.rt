@@ -13,8 +13,10 @@ pub struct Height {
 }
 
 impl Height {
-    // The height of the lowest tree, which has two keys.
+    // The height of the lowest tree, which has two keys, and of the highest.
     pub const LOWEST: Height = Height { levels: 1 };
+
+    pub const HIGHEST: Height = Height { levels: 32 };
 
     ghost use Rattle.cover.specs.Heights.{height_rules, told};
 

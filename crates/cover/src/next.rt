@@ -1,15 +1,16 @@
 // Rows one after the other: whether a node may come next.
 ghost use Rattle.std.specs.Prelude.{◌≡◌, ◌≤◌, true, nat_lt};
 ghost use Rattle.refusal.specs.Judged.{judged};
-ghost use Rattle.cover.specs.Tree.{first_key, past as past_node};
+ghost use Rattle.cover.specs.Tree.{first_key as first_of, past as past_of};
 ghost use Rattle.cover.specs.Next.{in_tree, check_rules, next_rules, PassingIsSound};
 
+use crate::cutting::first_key;
 use crate::height::Height;
 use crate::node::Node;
 use refusal::Refusal;
 
 // Whether a node is one of the tree of this height.
-fn is_in_tree(height: Height, node: Node) -> bool
+pub(crate) fn is_in_tree(height: Height, node: Node) -> bool
     ensures { result ≡ in_tree height.levels node }
 {
     let levels = height.levels();
@@ -19,9 +20,10 @@ fn is_in_tree(height: Height, node: Node) -> bool
 // Whether a node begins before another ends. The other may be any node: one outside the tree ends above each key of it.
 fn begins_before_end(height: Height, node: Node, other: Node) -> bool
     requires { in_tree height.levels node ≡ true }
-    ensures { result ≡ nat_lt (first_key node) (past_node other) }
+    ensures { result ≡ nat_lt (first_of node) (past_of other) }
 {
-    !is_in_tree(height, other) || node.index << node.level < (other.index + 1) << other.level
+    !is_in_tree(height, other)
+        || first_key(node.level, node.index) < first_key(other.level, other.index + 1)
 }
 
 // Whether a node may stand as the next row, after the one before it or as the first. Rows that pass are sound.

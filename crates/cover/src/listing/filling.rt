@@ -7,6 +7,8 @@ ghost use Rattle.cover.specs.Tree.{CoverIsOne, NoRowsNoKeys};
 
 use super::NodeList;
 use crate::cutting::cut;
+use crate::height::Height;
+use crate::next::is_in_tree;
 use crate::node::{Node, Span};
 use arrayvec::ArrayVec;
 use refusal::Refusal;
@@ -47,7 +49,7 @@ impl NodeList {
         ensures one { CoverIsOne }
         ensures none { NoRowsNoKeys }
     {
-        if node.level > 32 || node.index >> (32 - node.level) != 0 {
+        if !is_in_tree(Height::HIGHEST, node) {
             return Err(Refusal::RowPlace);
         }
         let count = self.nodes.len();

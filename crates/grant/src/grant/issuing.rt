@@ -1,19 +1,19 @@
 // Issuing a grant.
-ghost use Rattle.std.specs.Prelude.{◌≡◌, ◌≤◌, length, replicate};
+ghost use Rattle.std.specs.Prelude.{◌≡◌, length, replicate};
 ghost use Rattle.cover.specs.Tree.{CoverIsOne};
 ghost use Rattle.cover.specs.Cut.{spans_rows};
 ghost use Rattle.cover.specs.Listed.{Lists};
 ghost use Rattle.grant.specs.Calls.{Issues};
 ghost use Rattle.grant.specs.Histories.{Continues, issued};
 
+use super::Grant;
 use super::seeding::{SeedSource, seed_rows};
-use super::{Grant, Row};
 use crate::descent::descend;
 use crate::key_tree::KeyTree;
 use crate::scratch::{Path, Wiped};
 use crate::spans::check_spans;
 use cipher::{Block, Cipher};
-use cover::{Height, Node, NodeList, Span};
+use cover::{Node, NodeList, Span};
 use refusal::Refusal;
 
 // Each seed is walked to from the root.
@@ -30,19 +30,21 @@ impl<C: Cipher> SeedSource for KeyTree<C> {
     }
 }
 
-// The nodes of the spans, one span after the other, where there is room for all.
-fn cut_spans(height: Height, spans: &[Span]) -> Result<NodeList, Refusal>
-    ensures { Lists result (spans_rows height.levels spans.now) }
-{
-    let mut nodes = NodeList::new();
-    let root = Node {
-        level: height.levels(),
-        index: 0,
-    };
-    for span in spans {
-        nodes.cut(root, *span)?;
+impl<C> KeyTree<C> {
+    // The nodes of the spans, one span after the other, where there is room for all.
+    fn cut_spans(&self, spans: &[Span]) -> Result<NodeList, Refusal>
+        ensures { Lists result (spans_rows self.now.height.levels spans.now) }
+    {
+        let mut nodes = NodeList::new();
+        let root = Node {
+            level: self.height.levels(),
+            index: 0,
+        };
+        for span in spans {
+            nodes.cut(root, *span)?;
+        }
+        Ok(nodes)
     }
-    Ok(nodes)
 }
 
 // All the ways out of an issue, over scratch that the caller wipes. The rows go straight into the grant, so that no other memory has all
@@ -65,9 +67,8 @@ fn issue_with<C: Cipher>(
         return Err(Refusal::TooManySpans);
     }
     check_spans(tree.height, spans)?;
-    let list = cut_spans(tree.height, spans)?;
+    let list = tree.cut_spans(spans)?;
     let nodes = list.as_slice();
-    grant.rows.fill(Row::BLANK);
     seed_rows(tree, nodes, path, &mut grant.rows);
     grant.height = tree.height;
     grant.count = nodes.len();

@@ -1,7 +1,9 @@
 // Putting nodes with their seeds in the place of rows.
-ghost use Rattle.std.specs.Prelude.{◌≡◌, ℕ, ◌<◌, ◌≤◌, map, length, take, replicate, slice_index_or};
+ghost use Rattle.std.specs.Prelude.{◌≡◌, ℕ, ◌<◌, ◌≤◌, map, length, take, slice_index_or};
+ghost use Rattle.cover.specs.declared.node.Node.{Node};
 ghost use Rattle.cover.specs.Cut.{node as node_at};
-ghost use Rattle.grant.specs.Rows.{zero_row, BlankAfter};
+ghost use Rattle.cipher.specs.declared.Block.{Block};
+ghost use Rattle.grant.specs.Rows.{BlankAfter};
 ghost use Rattle.grant.specs.Grants.{seeded_by};
 
 use super::Row;
@@ -11,34 +13,30 @@ use cover::Node;
 
 // What the seeds of nodes come from.
 pub(crate) trait SeedSource {
-    ghost use Rattle.std.specs.Prelude.{◌≡◌};
-    ghost use Rattle.cover.specs.declared.node.Node.{Node as ANode};
-    ghost use Rattle.cipher.specs.declared.Block.{Block as ABlock};
+    // The nodes whose seeds can be asked for.
+    ghost below: { Self → Node → Type 0 };
 
-    // The nodes that it may be asked for.
-    ghost below: { Self → ANode → Type 0 };
-
-    ghost seed: { Self → ANode → ABlock };
+    ghost seed: { Self → Node → Block };
 
     fn seed(&self, node: Node, path: &mut Path) -> Block
         requires { below self.now node }
         ensures { result ≡ seed self.now node };
 }
 
-// Puts the nodes with their seeds in the place of the first rows.
+// Puts the nodes with their seeds in the place of the rows, and leaves no seed behind them.
 pub(crate) fn seed_rows<S: SeedSource>(
     source: &S,
     nodes: &[Node],
     path: &mut Path,
-    rows: &mut [Row],
+    rows: &mut [Row; 128],
 )
     requires few { length nodes.now ≤ 128 }
     requires below { (i : ℕ) → i < length nodes.now → S.below source.now (slice_index_or nodes.now i (node_at 0 0)) }
-    requires blank { rows.old ≡ replicate 128 zero_row }
     ensures long { length rows.new ≡ 128 }
     ensures clear { BlankAfter (length nodes.now) rows.new }
     ensures made { take (length nodes.now) rows.new ≡ map (seeded_by (S.seed source.now)) nodes.now }
 {
+    rows.fill(Row::BLANK);
     // By index, since a proof knows no element that was written through a zip of mutable places.
     for (i, node) in nodes.iter().enumerate() {
         rows[i] = Row {
