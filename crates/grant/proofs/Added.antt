@@ -19,7 +19,7 @@ use Rattle.grant.specs.Filling.{add_rules}
 use Rattle.grant.proofs.Verdicts.{verdict, judged-found, judged-rest, judged-none}
 
 -- with a height in range the check is that of the node
-pub in_range : (height : ℕ) (before : Option Node) (n : Node) → 1 ≤ height → height ≤ 32 → verdict (check_rules height before n) ≡ verdict (next_rules height before n)
+in_range : (height : ℕ) (before : Option Node) (n : Node) → 1 ≤ height → height ≤ 32 → verdict (check_rules height before n) ≡ verdict (next_rules height before n)
 in_range height before n low high =
     cond-false (not (leb 1 height && leb height 32)) (Err Height) (verdict (next_rules height before n))
     (not_from_true (leb 1 height && leb height 32) (and_from (leb 1 height) (leb height 32) (le-leb 1 height low) (le-leb height 32 high)))
