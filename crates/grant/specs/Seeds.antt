@@ -6,7 +6,7 @@ use Rattle.source.specs.Sources.{Keys}
 abbrev pub block : ℕ → ℕ → Block
 block high low = record { high = high; low = low }
 
--- The seed in two words of a list, at an even place.
+-- The seed at a place of a path, where each takes two words.
 abbrev pub seed_in : List ℕ → ℕ → Block
 seed_in words place = block (slice_index_or words (2 * place) 0) (slice_index_or words (2 * place + 1) 0)
 
