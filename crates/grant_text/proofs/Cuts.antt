@@ -1,6 +1,6 @@
 -- A text is cut into its columns in one way. Assumes nothing.
 use Rattle.std.proofs.Common.{◌≡◌, ℕ, ◌+◌, ◌-◌, ◌^◌, ◌<◌, ◌≤◌, List, [], ◌∷◌, ◌++◌, length, get_or, take, drop, replicate, codes, decimal, sym, ap, ◌∙◌, arith}
-use Rattle.std.proofs.lemmas.List.{append_assoc, take-append-drop, length-append, length-replicate, length-take, take_at, drop_at, drop-take, take-take, get_or-append_right, drop_more, take_rest, append_cancel_left}
+use Rattle.std.proofs.lemmas.List.{append_assoc, take-append-drop, length-append, length-replicate, length-take, take_at, drop_at, drop-take, take-take, get_or-append_right, append_cancel_left}
 use Rattle.std.proofs.lemmas.Str.Parse.{digit_at}
 use Rattle.std.proofs.lemmas.Fmt.{decimal_nonempty, digits_decimal, decimal_injective}
 use Rattle.grant_text.specs.Columns.{column}
@@ -73,10 +73,5 @@ row_same s q r wq wr e f =
     λ i. record { level = level.0 i; index = index.0 i; seed = record { high = high.0 i; low = low.0 i } }
 
 -- the letters in front
-pub letters_join : (s : List ℕ) → 4 ≤ length s → get_or s 0 0 ≡ 80 → get_or s 1 0 ≡ 65 → get_or s 2 0 ≡ 83 → get_or s 3 0 ≡ 83 → s ≡ codes "PASS" ++ take (length s - 4) (drop 4 s)
-letters_join s h a b c d =
-    drop_more s 0 0 (omega arith) ∙ (λ i. a i ∷ drop_more s 1 0 (omega arith) i) ∙ (λ i. 80 ∷ (b i ∷ drop_more s 2 0 (omega arith) i))
-    ∙ (λ i. 80 ∷ (65 ∷ (c i ∷ drop_more s 3 0 (omega arith) i))) ∙ (λ i. 80 ∷ (65 ∷ (83 ∷ (d i ∷ sym (take_rest s 4) i))))
-
 pub letters_cut : (bs rest : List ℕ) (h k : ℕ) → bs ≡ codes "PASS" ++ rest → take 12 bs ≡ heading h k → take 8 rest ≡ sizes h k
 letters_cut bs rest h k e f = append_cancel_left (codes "PASS") (take 8 rest) (sizes h k) (ap (take 12) (sym e) ∙ f)
