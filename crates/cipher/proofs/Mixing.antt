@@ -1,7 +1,7 @@
 -- A mixColumn column from four entries of the spread table.
 -- Assumes nothing.
 use Rattle.std.proofs.Common.{◌≡◌, ℕ, ◌^◌, ◌<◌, refl, ap, ◌∙◌, ap₂}
-use lib.Bits.{bit_xor}
+use lib.Bits.{bit_xor, xor_lt}
 use Rattle.cipher.specs.Aes.{column, xor_column, dot, mix_column}
 use Rattle.cipher.specs.Tables.{spread_of}
 use Rattle.cipher.specs.Field.{sbox}
@@ -27,3 +27,9 @@ mixing p q u v a b c d hq hv hx ep eq eu ev =
     column-xor (bit_xor p (right8 q)) (right16 (bit_xor u (right8 v)))
     ∙ ap₂ xor_column (pair p q a b hq ep eq) (column-right16 (bit_xor u (right8 v)) hx ∙ ap right2 (pair u v c d hv eu ev))
     ∙ matrix a b c d
+
+-- the bound that `mixing` asks for
+pub xor_below : (a b : ℕ) → a < 2 ^ 32 → b < 2 ^ 32 → bit_xor a b < 2 ^ 32
+xor_below a b = xor_lt 32 a b
+
+pub ruleset mixes = (mixing, xor_below)

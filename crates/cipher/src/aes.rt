@@ -100,6 +100,7 @@ fn diagonal(a: u32, b: u32, c: u32, d: u32) -> [u8; 4]
 
 // One column of a round, from the four columns that hold its bytes. The spread table gives the part of each byte as if it
 // stood in row 0; a byte of row r has its part r rows lower, so the word is rotated right by r bytes.
+#[tactic(auto, using(crate::proofs::Mixing::mixes), unfolding(crate::specs::Aes::diagonal, crate::specs::Aes::sub_column))]
 fn mixed_column(a: u32, b: u32, c: u32, d: u32) -> u32
     ensures { column result ≡ mix_column (diagonal (sub_column (column a)) (sub_column (column b)) (sub_column (column c)) (sub_column (column d))) }
 {
