@@ -91,7 +91,9 @@ module _ {C : Type 0} (e : Encrypted) (words : ℕ) (s : Span) (g : Grant C) (ro
       record {
         low = omega (arith, r.low);
         inside = omega (arith, r.inside, pow_mono high, first_past n);
-        under = λ y u. let same : a.row ≡ y = cc (a.found, u) in subst (λ (x : Row). n.level ≤ x.level) same a.level;
+        row = a.row;
+        over = a.found;
+        level = a.level;
       }
 
   module _ (count : ℕ) (rows : List Row) (made : take count rows ≡ map (lowered e (rows_of g)) (left_rows s (nodes_of g))) where

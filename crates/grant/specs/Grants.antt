@@ -81,8 +81,10 @@ seeded e root height = seeded_by (seed_under e root height)
 abbrev pub lowered : Encrypted → List Row → Node → Row
 lowered e rs = seeded_by (λ n. seed_from e (row_over rs (first_key n)) n)
 
--- The node lies in a tree, and not above the row that stands over its first key, if one does.
+-- The node lies in a tree, and not above the row that stands over its first key.
 pub record Placed (rs : List Row) (n : Node) : Type 0 where
   pub low : n.level ≤ 32
   pub inside : first_key n ≤ 2 ^ 32
-  pub under : (y : Row) → row_over rs (first_key n) ≡ Some y → n.level ≤ y.level
+  pub row : Row
+  pub over : row_over rs (first_key n) ≡ Some row
+  pub level : n.level ≤ row.level

@@ -8,7 +8,7 @@ ghost use Rattle.layers.specs.Layers.{coarse};
 ghost use Rattle.layer_clients.specs.Readers.{OpensCoarsely, twice};
 
 use group::Group;
-use layers::{Coarse, Joint, Lent, post};
+use layers::{Coarse, Joint, post};
 use refusal::Refusal;
 use sealing::open;
 use source::KeySource;
@@ -23,10 +23,7 @@ pub fn joint_key<G: Group, A: KeySource<G>, B: KeySource<G>>(
     ensures has { (is_some result ≡ true) ↔ (Has (A.KeySource.keys one.now) number × Has (B.KeySource.keys other.now) number) }
     ensures figure { (x : G) → result ≡ Some x → x ≡ G.Group.kind.plus (key G.Group.kind (A.KeySource.keys one.now) number) (key G.Group.kind (B.KeySource.keys other.now) number) }
 {
-    let joint = Joint {
-        one: Lent { source: one },
-        other: Lent { source: other },
-    };
+    let joint = Joint { one, other };
     joint.key(number)
 }
 
@@ -47,7 +44,7 @@ pub fn second_key<G: Group, F: KeySource<G>, O: KeySource<G>>(
     let coarse = Coarse {
         step,
         envelopes: &envelopes,
-        other: Lent { source: other },
+        other,
     };
     coarse.key(step)
 }
@@ -67,7 +64,7 @@ pub fn open_coarsely<G: Group, S: Store<G>, E: Store<G>, O: KeySource<G>>(
     let reader = Coarse {
         step,
         envelopes,
-        other: Lent { source: other },
+        other,
     };
     open(store, &reader, a, b)
 }

@@ -3,10 +3,8 @@
 
 mod coarse;
 mod joint;
-mod lent;
 mod posting;
 
 pub use coarse::Coarse;
 pub use joint::Joint;
-pub use lent::Lent;
 pub use posting::post;

@@ -19,3 +19,12 @@ pub trait KeySource<G: Group> {
     fn key(&self, number: u64) -> Option<G>
         ensures { result ≡ keys self.now number };
 }
+
+// A source that is lent has the keys that it refers to.
+impl<G: Group, K: KeySource<G>> KeySource<G> for &K {
+    ghost keys = { λ s. K.KeySource.keys s.now };
+
+    fn key(&self, number: u64) -> Option<G> {
+        (**self).key(number)
+    }
+}
