@@ -17,7 +17,7 @@ pub fn open_granted<C: Cipher, G: Group, S: Store<G>>(
     a: usize,
     b: usize,
 ) -> Result<G, Refusal>
-    ensures { Shared C.Cipher.encrypted G.Group.kind G.Group.width G.Group.made S.Store.contents S.Store.sound store.now grant.now a b result }
+    ensures { Shared C.Cipher.encrypted G.Group.kind G.Group.KEY_WORDS G.Group.made S.Store.contents S.Store.sound store.now grant.now a b result }
 {
     open(store, grant, a, b)
 }

@@ -19,7 +19,7 @@ pub trait Group: Copy {
     // How many words of 64 bits a key takes, from one to three.
     const KEY_WORDS: usize;
 
-    // The same, for clauses.
+    // The same number for clauses.
     ghost KEY_WORDS: { ℕ };
 
     // What figures count as.
@@ -28,14 +28,12 @@ pub trait Group: Copy {
     // Zero, addition and negation on figures, with the laws of a commutative group on what they count as.
     ghost kind: { Kind Self Value };
 
-    // How many words a key takes, and the figure that they make.
-    ghost width: { ℕ };
-
+    // The figure that the words of a key make.
     ghost made: { List ℕ → Self };
 
     // The figure of as many words as a key takes; the others are ignored.
     fn from_words(words: [u64; 3]) -> Self
-        ensures { result ≡ made (take width words) };
+        ensures { result ≡ made (take KEY_WORDS words) };
 
     fn identity() -> Self
         ensures { result ≡ kind.zero };
@@ -51,12 +49,12 @@ pub trait Group: Copy {
         ensures only { result ≡ true → kind.value self ≡ kind.value other }
         ensures whenever { kind.value self ≡ kind.value other → result ≡ true };
 
-    // A key takes that many words.
-    ghost key_takes: { (KEY_WORDS ≡ width) × (1 ≤ width) × (width ≤ 3) };
+    // From one to three of them.
+    ghost one_to_three: { (1 ≤ KEY_WORDS) × (KEY_WORDS ≤ 3) };
 
     // KEY_WORDS, with what callers may know of it.
     final fn words_per_key() -> usize
-        ensures is { result ≡ width }
+        ensures is { result ≡ KEY_WORDS }
         ensures some { 1 ≤ result }
         ensures few { result ≤ 3 }
     {

@@ -24,8 +24,6 @@ impl Group for Count {
 
     ghost kind = { counts };
 
-    ghost width = { 1 };
-
     ghost made = { word_count };
 
     fn from_words(words: [u64; 3]) -> Count {
@@ -52,7 +50,7 @@ impl Group for Count {
         self == other
     }
 
-    ghost key_takes = { Prim.search rules };
+    ghost one_to_three = { Prim.search rules };
 }
 
 impl fmt::Display for Count {

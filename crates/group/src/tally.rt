@@ -47,8 +47,6 @@ impl Group for Moments {
 
     ghost kind = { moments };
 
-    ghost width = { 3 };
-
     ghost made = { word_moments };
 
     fn from_words(words: [u64; 3]) -> Moments {
@@ -87,7 +85,7 @@ impl Group for Moments {
         self == other
     }
 
-    ghost key_takes = { Prim.search rules };
+    ghost one_to_three = { Prim.search rules };
 }
 
 impl fmt::Display for Moments {

@@ -22,8 +22,6 @@ impl Group for Flags {
 
     ghost kind = { flags };
 
-    ghost width = { 1 };
-
     ghost made = { word_flags };
 
     fn from_words(words: [u64; 3]) -> Flags {
@@ -48,7 +46,7 @@ impl Group for Flags {
         self == other
     }
 
-    ghost key_takes = { Prim.search rules };
+    ghost one_to_three = { Prim.search rules };
 }
 
 impl fmt::Display for Flags {

@@ -35,7 +35,7 @@ impl Row {
 
     // The key of this number, where the row stands over it.
     pub fn key<C: Cipher, G: Group>(&self, number: u64) -> Option<G>
-        ensures { result ≡ row_key C.Cipher.encrypted G.Group.width G.Group.made self.now number }
+        ensures { result ≡ row_key C.Cipher.encrypted G.Group.KEY_WORDS G.Group.made self.now number }
     {
         if !self.is_over(number) {
             return None;

@@ -55,11 +55,11 @@ impl<C> Grant<C> {
 
 // It has the keys under its rows: a cipher call for each level below the row, and one for each word.
 impl<G: Group, C: Cipher> KeySource<G> for Grant<C> {
-    ghost keys = { grant_keys C.Cipher.encrypted G.Group.width G.Group.made };
+    ghost keys = { grant_keys C.Cipher.encrypted G.Group.KEY_WORDS G.Group.made };
 
     fn key(&self, number: u64) -> Option<G>
-        ensures is { result ≡ grant_keys C.Cipher.encrypted G.Group.width G.Group.made self.now number }
-        ensures lawful { KeepsTo C.Cipher.encrypted G.Group.width G.Group.made self.now }
+        ensures is { result ≡ grant_keys C.Cipher.encrypted G.Group.KEY_WORDS G.Group.made self.now number }
+        ensures lawful { KeepsTo C.Cipher.encrypted G.Group.KEY_WORDS G.Group.made self.now }
     {
         let row = self.row_over(number)?;
         row.key::<C, G>(number)

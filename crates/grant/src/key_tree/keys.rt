@@ -29,7 +29,7 @@ impl<C> KeyTree<C> {
 
 // It has the keys below 2^height, which are those of its root's row.
 impl<G: Group, C: Cipher> KeySource<G> for KeyTree<C> {
-    ghost keys = { λ t. tree_keys C.Cipher.encrypted G.Group.width G.Group.made t.height.levels t.root };
+    ghost keys = { λ t. tree_keys C.Cipher.encrypted G.Group.KEY_WORDS G.Group.made t.height.levels t.root };
 
     fn key(&self, number: u64) -> Option<G> {
         let root = Row {
