@@ -20,7 +20,8 @@ impl<'a, G: Group> TreeStore<'a, G> {
     {
         let shape = self.shape;
         let number = self.used;
-        self.cells[number] = figure;
+        let cells = &mut *self.cells;
+        cells[number] = figure;
         let mut start = 0;
         let mut width = shape.capacity;
         let mut at = number;
@@ -29,7 +30,7 @@ impl<'a, G: Group> TreeStore<'a, G> {
             width = shape.above(width);
             at /= shape.fan_out;
             let i = start + at;
-            self.cells[i] = self.cells[i].add(figure);
+            cells[i] = cells[i].add(figure);
         }
     }
 

@@ -8,7 +8,4 @@ invariant-loop-below g l =
     (l.start ≡ level_start l.shape.fan_out l.shape.capacity l.below)
     × (l.width ≡ level_width l.shape.fan_out l.shape.capacity l.below)
     × (l.at ≡ l.number / l.shape.fan_out ^ l.below)
-    × (l.self.cells.now ≡ raised g.G.Group.kind l.shape.fan_out l.shape.capacity l.number l.figure l.initial.self.cells.now l.below)
-    × (l.self.cells.ghost_name ≡ l.initial.self.cells.ghost_name)
-    × (l.self.shape ≡ l.initial.self.shape)
-    × (l.self.used ≡ l.initial.self.used)
+    × (l.cells ≡ raised g.G.Group.kind l.shape.fan_out l.shape.capacity l.number l.figure l.initial.cells l.below)
