@@ -33,7 +33,7 @@ pub fn post<G: Group, S: Store<G>, F: KeySource<G>, O: KeySource<G>>(
     ensures fits { Continues G.Group.kind step (F.KeySource.keys fine.now) (O.KeySource.keys other.now) (S.Store.contents envelopes.old) result (S.Store.contents envelopes.new) }
     ensures grows { Grows G.Group.kind (S.Store.contents envelopes.old) (S.Store.contents envelopes.new) }
 {
-    if step < 1 || step > MAX_STEP {
+    if !(1..=MAX_STEP).contains(&step) {
         return Err(Refusal::Step);
     }
     let j = envelopes.len();

@@ -2,8 +2,8 @@ use Rattle.std.proofs.Common.{rules}
 use Rattle.layers.proofs.Fitting.{post_continues, push_grows}
 use Rattle.layers.proofs.posting.post.Goals as goal
 
-pub returns-then-step-lt1-clause-fits : goal.returns-then-step-lt1-clause-fits
-returns-then-step-lt1-clause-fits g c = post_continues _ _ _ _ _ _ (search rules)
+pub returns-then-not-contains-clause-fits : goal.returns-then-not-contains-clause-fits
+returns-then-not-contains-clause-fits g c = post_continues _ _ _ _ _ _ (search rules)
 
 pub returns-then-j-capacity-clause-fits : goal.returns-then-j-capacity-clause-fits
 returns-then-j-capacity-clause-fits g c = post_continues _ _ _ _ _ _ (search rules)
