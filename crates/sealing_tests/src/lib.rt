@@ -22,10 +22,6 @@ mod tests {
         }
     }
 
-    fn value(answer: Result<Count, Refusal>) -> Result<u64, u32> {
-        answer.map(|x| x.value).map_err(Refusal::number)
-    }
-
     #[test]
     fn counts(rt: HostRuntime) -> Result<(), Fail> {
         let keys = [count(10), count(3), count(20), count(7)];
@@ -41,9 +37,18 @@ mod tests {
                 Err(34)
             );
             let epoch = epoch.close();
-            assert_eq!(rt; value(open(&store, epoch.keys(), 0, 3)), Ok(7));
-            assert_eq!(rt; value(open(&store, epoch.keys(), 1, 3)), Ok(2));
-            assert_eq!(rt; value(open(&store, epoch.keys(), 2, 2)), Ok(0));
+            assert_eq!(rt;
+                open(&store, epoch.keys(), 0, 3).map_err(Refusal::number),
+                Ok(count(7))
+            );
+            assert_eq!(rt;
+                open(&store, epoch.keys(), 1, 3).map_err(Refusal::number),
+                Ok(count(2))
+            );
+            assert_eq!(rt;
+                open(&store, epoch.keys(), 2, 2).map_err(Refusal::number),
+                Ok(count(0))
+            );
         }
         assert_eq!(rt; cells[0].value, 12);
         assert_eq!(rt; cells[1].value, less(19).value);
@@ -71,12 +76,15 @@ mod tests {
             to: 2,
             after: count(20),
         };
-        assert_eq!(rt; value(open(&store, &ends, 0, 2)), Ok(3));
-        assert_eq!(rt; value(open(&store, &ends, 3, 1)), Err(1));
-        assert_eq!(rt; value(open(&store, &ends, 1, 3)), Err(32));
-        assert_eq!(rt; value(open(&store, &ends, 1, 2)), Err(33));
-        assert_eq!(rt; value(open(&store, &ends, 0, 1)), Err(34));
-        assert_eq!(rt; value(open(&store, &ends, 1, 1)), Err(33));
+        assert_eq!(rt;
+            open(&store, &ends, 0, 2).map_err(Refusal::number),
+            Ok(count(3))
+        );
+        assert_eq!(rt; open(&store, &ends, 3, 1).map_err(Refusal::number), Err(1));
+        assert_eq!(rt; open(&store, &ends, 1, 3).map_err(Refusal::number), Err(32));
+        assert_eq!(rt; open(&store, &ends, 1, 2).map_err(Refusal::number), Err(33));
+        assert_eq!(rt; open(&store, &ends, 0, 1).map_err(Refusal::number), Err(34));
+        assert_eq!(rt; open(&store, &ends, 1, 1).map_err(Refusal::number), Err(33));
         Ok(())
     }
 
@@ -136,15 +144,15 @@ mod tests {
         let keys = [count(10), count(3), count(20)];
         let mut cells = [count(0); 2];
         assert_eq!(rt;
-            value(two_listed(&keys, &mut cells, count(5), less(6))),
-            Ok(less(1).value)
+            two_listed(&keys, &mut cells, count(5), less(6)).map_err(Refusal::number),
+            Ok(less(1))
         );
         assert_eq!(rt;
-            value(two_listed(&keys, &mut cells[0..1], count(5), count(6))),
+            two_listed(&keys, &mut cells[0..1], count(5), count(6)).map_err(Refusal::number),
             Err(31)
         );
         assert_eq!(rt;
-            value(two_listed(&keys[0..2], &mut cells, count(5), count(6))),
+            two_listed(&keys[0..2], &mut cells, count(5), count(6)).map_err(Refusal::number),
             Err(34)
         );
     }

@@ -15,10 +15,6 @@ mod tests {
         Count { value }
     }
 
-    fn counted(sum: Result<Count, Refusal>) -> Result<u64, u32> {
-        sum.map(|x| x.value).map_err(Refusal::number)
-    }
-
     // How many cells a plan needs, or why it is refused.
     fn needed(fan_out: usize, capacity: usize, cells: usize) -> Result<usize, u32> {
         Plan::new(fan_out, capacity, cells)
@@ -41,10 +37,6 @@ mod tests {
         assert_eq!(rt; needed(2, 1, 0), Err(11));
     }
 
-    fn plan(fan_out: usize, capacity: usize, cells: usize) -> Result<Plan, Fail> {
-        Plan::new(fan_out, capacity, cells).map_err(|_| Fail::new("plan"))
-    }
-
     // The figures from 1 to n.
     fn triangle(n: u64) -> u64 {
         n.wrapping_mul(n.wrapping_add(1)) / 2
@@ -52,7 +44,7 @@ mod tests {
 
     #[test]
     fn ten_figures(rt: HostRuntime) -> Result<(), Fail> {
-        let plan = plan(4, 10, 15)?;
+        let plan = Plan::new(4, 10, 15)?;
         assert_eq!(rt; plan.levels(), 3);
         let mut cells = [count(7); 15];
         {
@@ -65,11 +57,11 @@ mod tests {
             for a in 0..11 {
                 for b in a..11 {
                     let sum = triangle(b as u64).wrapping_sub(triangle(a as u64));
-                    assert_eq!(rt; counted(store.total(a, b)), Ok(sum));
+                    assert_eq!(rt; store.total(a, b).map_err(Refusal::number), Ok(count(sum)));
                 }
             }
-            assert_eq!(rt; counted(store.total(3, 2)), Err(1));
-            assert_eq!(rt; counted(store.total(0, 11)), Err(32));
+            assert_eq!(rt; store.total(3, 2).map_err(Refusal::number), Err(1));
+            assert_eq!(rt; store.total(0, 11).map_err(Refusal::number), Err(32));
         }
         assert_eq!(rt; cells[9].value, 10);
         assert_eq!(rt; cells[10].value, 10);
@@ -82,13 +74,13 @@ mod tests {
 
     #[test]
     fn too_few_cells(rt: HostRuntime) -> Result<(), Fail> {
-        let plan = plan(4, 10, 14)?;
+        let plan = Plan::new(4, 10, 14)?;
         let mut cells = [count(7); 13];
         {
             let mut store = TreeStore::new(plan, &mut cells);
             assert_eq!(rt; store.capacity(), 0);
             assert_eq!(rt; store.put(count(1)).map_err(Refusal::number), Err(31));
-            assert_eq!(rt; counted(store.total(0, 0)), Ok(0));
+            assert_eq!(rt; store.total(0, 0).map_err(Refusal::number), Ok(count(0)));
         }
         assert_eq!(rt; cells[0].value, 7);
         assert_eq!(rt; cells[12].value, 7);
@@ -98,34 +90,30 @@ mod tests {
 
     #[test]
     fn kinds(rt: HostRuntime) -> Result<(), Fail> {
-        let plan = plan(2, 2, 3)?;
+        let plan = Plan::new(2, 2, 3)?;
         let keys = [count(10), count(3), count(20)];
         let source = KeyList { keys: &keys };
         assert_eq!(rt;
-            counted(two_tree(plan, source, &mut [count(0); 3], count(5), count(6))),
-            Ok(11)
+            two_tree(plan, source, &mut [count(0); 3], count(5), count(6)).map_err(Refusal::number),
+            Ok(count(11))
         );
         assert_eq!(rt;
-            counted(two_tree(plan, source, &mut [count(0); 2], count(5), count(6))),
+            two_tree(plan, source, &mut [count(0); 2], count(5), count(6)).map_err(Refusal::number),
             Err(31)
         );
         let source = KeyList { keys: &keys[0..2] };
         assert_eq!(rt;
-            counted(two_tree(plan, source, &mut [count(0); 3], count(5), count(6))),
+            two_tree(plan, source, &mut [count(0); 3], count(5), count(6)).map_err(Refusal::number),
             Err(34)
         );
         let keys = [Flags { bits: 12 }, Flags { bits: 10 }, Flags { bits: 6 }];
         let (x, y) = (Flags { bits: 1 }, Flags { bits: 3 });
-        let flags = two_tree(plan, KeyList { keys: &keys }, &mut [x; 3], x, y).map_err(
-            |_| Fail::new("flags"),
-        )?;
+        let flags = two_tree(plan, KeyList { keys: &keys }, &mut [x; 3], x, y)?;
         assert_eq!(rt; flags.bits, 2);
-        let x = Moments::parcel(3).map_err(|_| Fail::new("parcels"))?;
-        let y = Moments::parcel(2147483647).map_err(|_| Fail::new("parcels"))?;
+        let x = Moments::parcel(3)?;
+        let y = Moments::parcel(2147483647)?;
         let keys = [x, y, x];
-        let moments = two_tree(plan, KeyList { keys: &keys }, &mut [x; 3], x, y).map_err(
-            |_| Fail::new("moments"),
-        )?;
+        let moments = two_tree(plan, KeyList { keys: &keys }, &mut [x; 3], x, y)?;
         assert_eq!(rt; moments.count, 2);
         assert_eq!(rt; moments.sum, 2147483650);
         assert_eq!(rt; moments.squares, 4611686014132420618);
