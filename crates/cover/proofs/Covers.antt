@@ -1,9 +1,10 @@
 -- What is cut is the rows of the set. Assumes nothing.
-use Rattle.std.proofs.Common.{◌≡◌, ℕ, zero, suc, ◌+◌, ◌-◌, ◌*◌, ◌/◌, ◌^◌, ◌<◌, ◌≤◌, true, false, ltb, leb, ◌⊎◌, List, [], ◌∷◌, sym, refl, ap, ◌∙◌, subst, inl, inr, ⊎_elim, add-mul, arith, pow_pos, pow-add}
+use Rattle.std.proofs.Common.{◌≡◌, ℕ, zero, suc, ◌+◌, ◌-◌, ◌*◌, ◌/◌, ◌^◌, ◌<◌, ◌≤◌, true, false, ◌⊎◌, List, [], ◌∷◌, sym, refl, ap, ◌∙◌, subst, inl, inr, ⊎_elim, add-mul, arith, pow_pos, pow-add}
 use mathlib.Core.List.Memᴰ
 use mathlib.Core.List.{Memᴰ}
 use Rattle.std.proofs.lemmas.Nat.{mul-le}
-use Rattle.std.proofs.lemmas.Bool.{cases_Bool, cases_lt, both_ways, leb-true, le-leb, ltb-true, lt-ltb, lt-leb, le-ltb, or_cases, or_from, or_left, or_right, and_parts, and_from, and_left, and_right}
+use Rattle.std.proofs.lemmas.Bool.{cases_Bool, cases_lt, both_ways, or_cases, or_from, or_left, or_right, and_parts, and_from}
+use Rattle.std.proofs.lemmas.Bool.Decides.{nat_tests}
 use Rattle.cover.specs.declared.node.Node.{Node}
 use Rattle.cover.specs.declared.node.Span.{Span}
 use Rattle.cover.specs.Tree.{first_key, past, parent, KeySet, Whole, RowOf, Rising, Cover, named, named_by, both, Spaced}
@@ -103,16 +104,16 @@ cover-same height one other ns same c = record {
 -- spans
 
 named-at : (s : Span) (k : ℕ) → s.from ≤ k → k < s.to → named s k ≡ true
-named-at s k a b = and_from (leb s.from k) (ltb k s.to) (le-leb s.from k a) (lt-ltb k s.to b)
+named-at s k a b = grind (arith, nat_tests)
 
 named-from : (s : Span) (k : ℕ) → named s k ≡ true → (s.from ≤ k) × (k < s.to)
-named-from s k e = let h = and_parts (leb s.from k) (ltb k s.to) e in (leb-true s.from k h.0, ltb-true k s.to h.1)
+named-from s k e = grind (arith, nat_tests)
 
 not-below : (s : Span) (k : ℕ) → k < s.from → named s k ≡ false
-not-below s k h = and_left (leb s.from k) (ltb k s.to) (lt-leb s.from k h)
+not-below s k h = grind (arith, nat_tests)
 
 not-past : (s : Span) (k : ℕ) → s.to ≤ k → named s k ≡ false
-not-past s k h = and_right (leb s.from k) (ltb k s.to) (le-ltb k s.to h)
+not-past s k h = grind (arith, nat_tests)
 
 in_spans : (ss : List Span) (k : ℕ) → named_by ss k ≡ true → (s : Span) × Memᴰ s ss × (s.from ≤ k) × (k < s.to)
 in_spans [] k e = absurd (both_ways false refl e)

@@ -1,25 +1,25 @@
 -- What the cutting of a node by a span gives. Assumes nothing.
-use Rattle.std.proofs.Common.{◌≡◌, ℕ, zero, suc, ◌+◌, ◌-◌, ◌*◌, ◌^◌, ◌<◌, ◌≤◌, true, false, cond, leb, ◌⊎◌, List, [], ◌∷◌, ◌++◌, sym, refl, ap, ◌∙◌, subst, inl, inr, ⊎_elim, arith, pow_pos}
+use Rattle.std.proofs.Common.{◌≡◌, ℕ, zero, suc, ◌+◌, ◌-◌, ◌*◌, ◌^◌, ◌<◌, ◌≤◌, true, false, cond, ◌⊎◌, List, [], ◌∷◌, ◌++◌, sym, refl, ap, ◌∙◌, subst, ⊎_elim, arith}
 use mathlib.Core.List.Memᴰ
 use mathlib.Core.List.{Memᴰ}
-use Rattle.std.proofs.lemmas.Nat.{mul-le}
-use Rattle.std.proofs.lemmas.Bool.{cond_both, both_ways, leb-true, leb-false, le-leb, or_cases, or_parts, and_parts, and_from}
+use Rattle.std.proofs.lemmas.Bool.{cond_both}
+use Rattle.std.proofs.lemmas.Bool.Decides.{nat_tests}
 use Rattle.cover.specs.declared.node.Node.{Node}
 use Rattle.cover.specs.Tree.{first_key, past, parent, Rising}
 use Rattle.cover.specs.Cut.{node, outside, within, cut}
 use Rattle.cover.proofs.Geometry.{climb, climb-parent, climb-first, climb-past, first_past, halves, parent-left, parent-right, first_left, past-right}
 
 apart_from : (from to : ℕ) (n : Node) → outside from to n ≡ true → (to ≤ first_key n) ⊎ (past n ≤ from)
-apart_from from to n e = ⊎_elim (λ (h : leb to (first_key n) ≡ true). inl (leb-true to (first_key n) h)) (λ (h : leb (past n) from ≡ true). inr (leb-true (past n) from h)) (or_cases (leb to (first_key n)) (leb (past n) from) e)
+apart_from from to n e = grind (arith, nat_tests)
 
 meets_from : (from to : ℕ) (n : Node) → outside from to n ≡ false → (first_key n < to) × (from < past n)
-meets_from from to n e = let h = or_parts (leb to (first_key n)) (leb (past n) from) e in (leb-false to (first_key n) h.0, leb-false (past n) from h.1)
+meets_from from to n e = grind (arith, nat_tests)
 
 within-from : (from to : ℕ) (n : Node) → within from to n ≡ true → (from ≤ first_key n) × (past n ≤ to)
-within-from from to n e = let h = and_parts (leb from (first_key n)) (leb (past n) to) e in (leb-true from (first_key n) h.0, leb-true (past n) to h.1)
+within-from from to n e = grind (arith, nat_tests)
 
 not_within : (from to : ℕ) (n : Node) → within from to n ≡ false → from ≤ first_key n → past n ≤ to → ⊥
-not_within from to n e f p = both_ways (within from to n) e (and_from (leb from (first_key n)) (leb (past n) to) (le-leb from (first_key n) f) (le-leb (past n) to p))
+not_within from to n e f p = grind (arith, nat_tests)
 
 -- a node apart from the span, within it, or neither
 pub data Way (from to : ℕ) (level index : ℕ) (rows : List Node) : Type 0 where
@@ -182,22 +182,14 @@ cut-between from to level index h = rising-between (first_key (node level index)
 
 -- the cut by the tests that the code makes
 pub cut_apart : (from to level index : ℕ) → (to ≤ first_key (node level index)) ⊎ (past (node level index) ≤ from) → cut from to level index ≡ []
-cut_apart from to level index o =
-    let fp = first_past (node level index) in
-    elim (way from to level index) [
-      | apart _ e ↦ e
-      | whole f p e ↦ absurd (⊎_elim (λ (h : to ≤ first_key (node level index)). omega arith) (λ (h : past (node level index) ≤ from). omega arith) o)
-      | partly l z a b not e ↦ absurd (⊎_elim (λ (h : to ≤ first_key (node level index)). omega arith) (λ (h : past (node level index) ≤ from). omega arith) o)
-    ]
+unfolding cut
+cut_apart from to zero index o = grind (arith, nat_tests)
+cut_apart from to (suc level) index o = grind (arith, nat_tests)
 
 pub cut-whole : (from to level index : ℕ) → from ≤ first_key (node level index) → past (node level index) ≤ to → cut from to level index ≡ node level index ∷ []
-cut-whole from to level index f p =
-    let fp = first_past (node level index) in
-    elim (way from to level index) [
-      | apart o e ↦ absurd (⊎_elim (λ (h : to ≤ first_key (node level index)). omega arith) (λ (h : past (node level index) ≤ from). omega arith) o)
-      | whole _ _ e ↦ e
-      | partly l z a b not e ↦ absurd (not f p)
-    ]
+unfolding cut
+cut-whole from to zero index f p = let fp = first_past (node zero index) in grind (arith, nat_tests)
+cut-whole from to (suc level) index f p = let fp = first_past (node (suc level) index) in grind (arith, nat_tests)
 
 pub record Halved (from to level index : ℕ) : Type 0 where
   pub above : 0 < level
@@ -223,6 +215,3 @@ cut-partly from to level index a b not =
           right_in = subst (λ (x : ℕ). (2 * index + 1 + 1) * 2 ^ x ≤ past (node level index)) (sym m) (omega arith);
           parts = subst (λ (x : ℕ). cut from to level index ≡ cut from to x (2 * index) ++ cut from to x (2 * index + 1)) (sym m) e;
         }
-
-pub index-small : (level index : ℕ) → (index + 1) * 2 ^ level ≤ 2 ^ 32 → index + 1 ≤ 2 ^ 32
-index-small level index h = omega (arith, mul-le (index + 1) 1 (index + 1) (2 ^ level) (omega arith) (pow_pos level))

@@ -1,9 +1,10 @@
 -- Sound rows are the rows of the keys under them. Assumes nothing.
-use Rattle.std.proofs.Common.{◌≡◌, ℕ, zero, suc, ◌+◌, ◌*◌, ◌^◌, ◌<◌, ◌≤◌, Bool, true, false, ltb, leb, ◌⊎◌, List, [], ◌∷◌, sym, refl, ap, ◌∙◌, subst, inl, inr, ⊎_elim, add-mul, arith}
+use Rattle.std.proofs.Common.{◌≡◌, ℕ, zero, suc, ◌+◌, ◌*◌, ◌^◌, ◌<◌, ◌≤◌, true, false, ltb, leb, ◌⊎◌, List, [], ◌∷◌, sym, refl, ap, ◌∙◌, subst, inl, inr, ⊎_elim, add-mul, arith}
 use mathlib.Core.List.Memᴰ
 use mathlib.Core.List.{Memᴰ}
 use native.Mathlib.Nat.{div-eq_of_lt-le}
 use lib.Pow.{pow-lt}
+use Rattle.std.proofs.lemmas.Bool.Decides.{same_from_decides}
 use Rattle.std.proofs.lemmas.Bool.{cases_lt, both_ways, leb-true, le-leb, ltb-true, lt-ltb, or_cases, or_left, or_right, and_parts, and_from}
 use Rattle.cover.specs.declared.node.Node.{Node}
 use Rattle.cover.specs.Tree.{first_key, past, parent, KeySet, Whole, RowOf, Rising, Cover, stands, held}
@@ -109,13 +110,9 @@ own-cover height ns up apart = record {
 
 -- A row stands over a key exactly when the key is in the set.
 pub held-keys : (height : ℕ) (keys : KeySet) (ns : List Node) (k : ℕ) → Cover height keys ns → k < 2 ^ height → held ns k ≡ keys k
-held-keys height keys ns k c h = by (held ns k) (keys k) (λ e. let q = from-held ns k e in (c.row q.0 q.1).whole k q.2 q.3) back
+held-keys height keys ns k c h =
+    same_from_decides (held ns k) (keys k) (λ e. let q = from-held ns k e in (c.row q.0 q.1).whole k q.2 q.3, back) (λ e. e, λ e. e)
   where
-    by : (a b : Bool) → (a ≡ true → b ≡ true) → (b ≡ true → a ≡ true) → a ≡ b
-    by true b f g = sym (f refl)
-    by false true f g = g refl
-    by false false f g = refl
-
     back : keys k ≡ true → held ns k ≡ true
     back e =
         let n = node 0 k in

@@ -1,14 +1,15 @@
 -- Rows that pass one after the other are sound, and sound rows pass. Assumes nothing.
-use Rattle.std.proofs.Common.{◌≡◌, ℕ, ◌+◌, ◌-◌, ◌*◌, ◌^◌, ◌<◌, ◌≤◌, true, false, not, ltb, leb, List, [], ◌∷◌, ◌++◌, Some, None, Option, sym, refl, ap, ◌∙◌, subst, ⊎_elim, arith, pow_pos, pow-add}
+use Rattle.std.proofs.Common.{◌≡◌, ℕ, ◌+◌, ◌-◌, ◌*◌, ◌^◌, ◌<◌, ◌≤◌, true, false, not, List, [], ◌∷◌, ◌++◌, Some, None, Option, sym, refl, ap, ◌∙◌, subst, ⊎_elim, arith, pow_pos, pow-add}
 use mathlib.Core.List.{Memᴰ}
 use lib.Pow.{pow-lt}
 use Rattle.std.proofs.lemmas.Nat.{mul-le}
 use Rattle.std.specs.List.{list_all}
-use Rattle.std.proofs.lemmas.Bool.{cases_lt, leb-true, le-leb, ltb-true, lt-ltb, ltb-false, le-ltb, both_ways, and_parts, and_from, not_from_true, not_from_false, not-true, not-false}
+use Rattle.std.proofs.lemmas.Bool.{cases_lt, le-leb, ltb-false, le-ltb, both_ways, and_parts, and_from, not_from_true, not_from_false, not-true, not-false}
 use Rattle.refusal.specs.Judged.{first}
 use Rattle.refusal.specs.Judged.{Rules}
 use Rattle.refusal.proofs.Judging.{Clear, clear, unrefused, first_passes}
 use Rattle.std.proofs.lemmas.List.{append_assoc, append-nil}
+use Rattle.std.proofs.lemmas.Bool.Decides.{nat_tests}
 use Rattle.cover.specs.declared.node.Node.{Node}
 use Rattle.cover.specs.Tree.{first_key, past, Rising, halves, neighbours, rising, is_distinct, sound}
 use Rattle.cover.specs.Next.{in_tree, next_rules, list_rules, last_of, PassingIsSound}
@@ -21,10 +22,10 @@ module _ (height : ℕ) (n : Node) where
   split low = sym (pow-add 2 (height - n.level) n.level) ∙ ap (λ (x : ℕ). 2 ^ x) (let q : height - n.level + n.level ≡ height = omega arith in q)
 
   pub tree-low : in_tree height n ≡ true → n.level ≤ height
-  tree-low e = leb-true n.level height (and_parts (leb n.level height) (ltb n.index (2 ^ (height - n.level))) e).0
+  tree-low e = grind (arith, nat_tests)
 
   pub tree-index : in_tree height n ≡ true → n.index < 2 ^ (height - n.level)
-  tree-index e = ltb-true n.index (2 ^ (height - n.level)) (and_parts (leb n.level height) (ltb n.index (2 ^ (height - n.level))) e).1
+  tree-index e = grind (arith, nat_tests)
 
   pub tree-past : in_tree height n ≡ true → past n ≤ 2 ^ height
   tree-past e =
@@ -35,7 +36,7 @@ module _ (height : ℕ) (n : Node) where
   past-tree low end =
       let up : (n.index + 1) * 2 ^ n.level ≤ 2 ^ (height - n.level) * 2 ^ n.level = subst (λ (x : ℕ). past n ≤ x) (sym (split low)) end in
       let few : n.index + 1 ≤ 2 ^ (height - n.level) = le-cancel (n.index + 1) (2 ^ (height - n.level)) (2 ^ n.level) (pow_pos n.level) up in
-      and_from (leb n.level height) (ltb n.index (2 ^ (height - n.level))) (le-leb n.level height low) (lt-ltb n.index (2 ^ (height - n.level)) (omega arith))
+      grind (arith, nat_tests)
 
   -- a node that ends inside the tree is one of the tree
   pub ends-inside : past n ≤ 2 ^ height → in_tree height n ≡ true

@@ -3,7 +3,8 @@ use Rattle.std.proofs.Common.{◌≡◌, ℕ, ◌+◌, ◌*◌, ◌/◌, ◌^◌
 use mathlib.Core.List.Memᴰ
 use mathlib.Core.List.{Memᴰ}
 use Rattle.std.specs.List.{list_all}
-use Rattle.std.proofs.lemmas.Bool.{cases_Bool, cases_lt, both_ways, leb-true, le-leb, eq-eqb, eqb-true, and_parts, and_from, not-true, not_from_false}
+use Rattle.std.proofs.lemmas.Bool.Decides.{nat_tests}
+use Rattle.std.proofs.lemmas.Bool.{cases_Bool, cases_lt, both_ways, leb-true, le-leb, eq-eqb, and_parts, and_from, not-true, not_from_false}
 use Rattle.cover.specs.declared.node.Node.{Node}
 use Rattle.cover.specs.Tree.{first_key, past, parent, KeySet, Whole, RowOf, Rising, Cover, held, rising, halves, is_distinct, sound, neighbours}
 use Rattle.cover.specs.Cut.{node}
@@ -56,20 +57,34 @@ pub sound-cover : (height : ℕ) (ns : List Node) → sound height ns ≡ true �
 sound-cover height ns e =
     let h = and_parts (rising 0 (2 ^ height) ns) (is_distinct halves ns) e in own-cover height ns (rising-from 0 (2 ^ height) ns h.0) (no_halves ns h.1)
 
+-- the halves of one node stand side by side
+halves_next : (x y : Node) → past x ≤ first_key y → halves x y ≡ true → (x.level ≡ y.level) × (x.index / 2 ≡ y.index / 2) × (y.index ≡ x.index + 1)
+halves_next x y up e =
+    let h = halves_level x y e in
+    let up' : (x.index + 1) * 2 ^ x.level ≤ y.index * 2 ^ x.level = subst (λ (l : ℕ). (x.index + 1) * 2 ^ x.level ≤ y.index * 2 ^ l) (sym h.0) up in
+    let after : x.index + 1 ≤ y.index = le-cancel (x.index + 1) y.index (2 ^ x.level) (pow_pos x.level) up' in
+    (h.0, h.1, omega (arith, h.1))
+  where
+    halves_level : (x y : Node) → halves x y ≡ true → (x.level ≡ y.level) × (x.index / 2 ≡ y.index / 2)
+    halves_level x y e = grind (arith, nat_tests)
+
+-- In rising order, two rows that are the halves of one node are neighbours.
+meet-halves : (x y : Node) → past x ≤ first_key y → halves x y ≡ true → past x ≡ first_key y
+meet-halves x y up e =
+    let h = halves_next x y up e in
+    subst (λ (l : ℕ). past x ≡ y.index * 2 ^ l) h.0 (ap (λ (i : ℕ). i * 2 ^ x.level) (sym h.2))
+
 -- two rows of a set are not the halves of one node
 not-halves : (height : ℕ) (keys : KeySet) (x y : Node) → RowOf height keys x → RowOf height keys y → past x ≤ first_key y → halves x y ≡ true → ⊥
 not-halves height keys x y r s up e =
-    let h = and_parts (eqb x.level y.level) (eqb (x.index / 2) (y.index / 2)) e in
-    let level : x.level ≡ y.level = eqb-true x.level y.level h.0 in
-    let index : x.index / 2 ≡ y.index / 2 = eqb-true (x.index / 2) (y.index / 2) h.1 in
-    let up' : (x.index + 1) * 2 ^ x.level ≤ y.index * 2 ^ x.level = subst (λ (l : ℕ). (x.index + 1) * 2 ^ x.level ≤ y.index * 2 ^ l) (sym level) up in
-    let after : x.index + 1 ≤ y.index = le-cancel (x.index + 1) y.index (2 ^ x.level) (pow_pos x.level) up' in
-    let next : y.index ≡ x.index + 1 = omega arith in
+    let h = halves_next x y up e in
+    let level = h.0 in
+    let index = h.1 in
+    let next = h.2 in
     let start : first_key (parent x) ≡ first_key x = pow-next (x.index / 2) x.level ∙ ap (λ (i : ℕ). i * 2 ^ x.level) (let q : x.index / 2 * 2 ≡ x.index = omega arith in q) in
     let end : past (parent x) ≡ (y.index + 1) * 2 ^ x.level = pow-next (x.index / 2 + 1) x.level ∙ ap (λ (i : ℕ). i * 2 ^ x.level) (let q : (x.index / 2 + 1) * 2 ≡ y.index + 1 = omega arith in q) in
     let end' : past (parent x) ≡ past y = subst (λ (l : ℕ). past (parent x) ≡ (y.index + 1) * 2 ^ l) level end in
-    let seam : past x ≡ y.index * 2 ^ x.level = ap (λ (i : ℕ). i * 2 ^ x.level) (sym next) in
-    let seam' : past x ≡ first_key y = subst (λ (l : ℕ). past x ≡ y.index * 2 ^ l) level seam in
+    let seam : past x ≡ first_key y = meet-halves x y up e in
     ⊎_elim
     (λ (t : x.level ≡ height).
     let big = subst (λ (l : ℕ). (x.index + 1) * 2 ^ l ≤ first_key y) t up in
@@ -89,17 +104,6 @@ cover_distinct height keys a b (x ∷ ns) r f =
 pub cover-sound : (height : ℕ) (keys : KeySet) (ns : List Node) → Cover height keys ns → sound height ns ≡ true
 cover-sound height keys ns c =
     and_from (rising 0 (2 ^ height) ns) (is_distinct halves ns) (to_rising 0 (2 ^ height) ns c.rising) (cover_distinct height keys 0 (2 ^ height) ns c.rising c.row)
-
--- In rising order, two rows that are the halves of one node are neighbours.
-meet-halves : (x y : Node) → past x ≤ first_key y → halves x y ≡ true → past x ≡ first_key y
-meet-halves x y up e =
-    let h = and_parts (eqb x.level y.level) (eqb (x.index / 2) (y.index / 2)) e in
-    let level : x.level ≡ y.level = eqb-true x.level y.level h.0 in
-    let index : x.index / 2 ≡ y.index / 2 = eqb-true (x.index / 2) (y.index / 2) h.1 in
-    let up' : (x.index + 1) * 2 ^ x.level ≤ y.index * 2 ^ x.level = subst (λ (l : ℕ). (x.index + 1) * 2 ^ x.level ≤ y.index * 2 ^ l) (sym level) up in
-    let after : x.index + 1 ≤ y.index = le-cancel (x.index + 1) y.index (2 ^ x.level) (pow_pos x.level) up' in
-    let next : y.index ≡ x.index + 1 = omega arith in
-    subst (λ (l : ℕ). past x ≡ y.index * 2 ^ l) level (ap (λ (i : ℕ). i * 2 ^ x.level) (sym next))
 
 distinct_from : (a b : ℕ) (ns : List Node) → Rising a b ns → neighbours ns ≡ true → is_distinct halves ns ≡ true
 distinct_from a b [] r e = refl

@@ -1,8 +1,9 @@
 -- The cutting of a node by a span, and what it has to do with covers. Assumes nothing.
-use Rattle.std.specs.Prelude.{ℕ, zero, suc, ◌+◌, ◌*◌, ◌^◌, Bool, cond, not, ◌&&◌, ◌||◌, List, [], ◌∷◌, ◌++◌, nat_le, nat_lt}
+use Rattle.std.specs.Prelude.{ℕ, zero, suc, ◌+◌, ◌*◌, ◌^◌, Bool, cond, not, ◌&&◌, ◌||◌, List, [], ◌∷◌, ◌++◌, length, Result, MatchResult, ◌≡◌, ◌<◌, nat_le, nat_lt}
 use Rattle.cover.specs.declared.node.Node.{Node}
 use Rattle.cover.specs.declared.node.Span.{Span}
 use Rattle.std.specs.List.{flat_map}
+use Rattle.refusal.specs.declared.Refusal.{Refusal}
 use Rattle.refusal.specs.declared.Refusal.TheVariants.{RowPlace, TooManyRows}
 use Rattle.refusal.specs.Judged.{Rules}
 use Rattle.cover.specs.Tree.{first_key, past, KeySet, Cover, Spaced, named, named_by, both}
@@ -31,6 +32,10 @@ placed n = nat_le n.level 32 && nat_le (past n) (2 ^ 32)
 -- When a cut refuses: by 15 when the node is in no tree, by 7 when there would be over 128 nodes.
 abbrev pub cut_rules : Node → ℕ → Rules
 cut_rules n rows = (not (placed n), RowPlace) ∷ (nat_lt 128 rows, TooManyRows) ∷ []
+
+-- Nodes are added where there is room for all of them, and refused by 7 where the list would have over 128.
+abbrev pub Adds : Result (Unit {0}) Refusal → List Node → List Node → List Node → Type 0
+Adds answer before more after = MatchResult answer (λ _. after ≡ before ++ more) (λ why. (why ≡ TooManyRows) × (128 < length (before ++ more)))
 
 -- What the root gives, cut by each span, and what each node gives, cut by one span.
 abbrev pub spans_rows : ℕ → List Span → List Node

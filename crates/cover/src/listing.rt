@@ -1,15 +1,14 @@
 // At most 128 nodes, without an allocator.
-ghost use Rattle.std.specs.Prelude.{◌≡◌, ◌≤◌, length};
+ghost use Rattle.std.specs.Prelude.{◌≤◌, length};
 
 use crate::node::Node;
+use arrayvec::ArrayVec;
 
 mod filling;
 
-// The first `count` of the list.
+// The nodes lie in the list itself.
 #[derive(Drop)]
 pub struct NodeList {
-    list: [Node; 128],
-    count: usize,
-    ghost sized: { length list ≡ 128 },
-    ghost fits: { count ≤ 128 },
+    nodes: ArrayVec<Node, 128>,
+    ghost fits: { length nodes.items ≤ 128 },
 }

@@ -1,7 +1,7 @@
 // Nodes and spans.
 
 // Node (level, index) of a key tree stands over the keys from index * 2^level up to, not including, (index + 1) * 2^level.
-#[derive(Clone, Copy)]
+#[derive(Clone, Copy, Default)]
 pub struct Node {
     pub level: u32,
     pub index: u64,

@@ -2,7 +2,8 @@
 use Rattle.std.proofs.Common.{◌≡◌, ℕ, suc, ◌+◌, ◌-◌, ◌^◌, ◌<◌, ◌≤◌, true, not, ◌&&◌, leb, List, [], ◌∷◌, map, length, set, Some, None, Ok, Err, Option, option_map, sym, refl, ap, ◌∙◌, arith}
 use Rattle.std.specs.List.{slice_get}
 use Rattle.std.proofs.lemmas.List.{take_more_set, map-append}
-use Rattle.std.proofs.lemmas.Bool.{cond-false, le-leb, leb-true, and_from, and_parts, not_from_true, not-false}
+use Rattle.std.proofs.lemmas.Bool.{le-leb, leb-true, and_from, and_parts, not-false}
+use Rattle.std.proofs.lemmas.Bool.Decides.{nat_tests}
 use Rattle.refusal.specs.declared.Refusal.{Refusal}
 use Rattle.refusal.specs.declared.Refusal.TheVariants.{Height, TooManyRows}
 use Rattle.refusal.specs.Judged.{Rules, first, refusal}
@@ -20,9 +21,7 @@ use Rattle.grant.proofs.Verdicts.{verdict, judged-found, judged-rest, judged-non
 
 -- with a height in range the check is that of the node
 in_range : (height : ℕ) (before : Option Node) (n : Node) → 1 ≤ height → height ≤ 32 → verdict (check_rules height before n) ≡ verdict (next_rules height before n)
-in_range height before n low high =
-    cond-false (not (leb 1 height && leb height 32)) (Err Height) (verdict (next_rules height before n))
-    (not_from_true (leb 1 height && leb height 32) (and_from (leb 1 height) (leb height 32) (le-leb 1 height low) (le-leb height 32 high)))
+in_range height before n low high = grind (arith, nat_tests)
 
 last_at : (before : Option Node) (r : Row) (rs : List Row) → last_of before (map node_of (r ∷ rs)) ≡ option_map node_of (slice_get (r ∷ rs) (length rs))
 last_at before r [] = refl

@@ -1,8 +1,8 @@
 -- Lists made from a function of each element. Assumes nothing.
-use Rattle.std.proofs.Common.{◌≡◌, ℕ, zero, suc, ◌+◌, ◌-◌, ◌<◌, List, [], ◌∷◌, ◌++◌, map, length, get_or, take, drop, set, replicate, sym, refl, ap, ◌∙◌, ⊎_elim, add-one, arith}
+use Rattle.std.proofs.Common.{◌≡◌, ℕ, ◌+◌, ◌-◌, ◌<◌, List, [], ◌∷◌, ◌++◌, map, length, get_or, take, drop, set, replicate, sym, refl, ap, ◌∙◌, ⊎_elim, arith}
 use mathlib.Core.List.Memᴰ
 use mathlib.Core.List.{Memᴰ}
-use Rattle.std.proofs.lemmas.List.{take_more, take_more_set, map-append}
+use Rattle.std.proofs.lemmas.List.{take_more, take_more_set, map-append, drop-set-lt, drop-drop, drop-replicate}
 
 pub fill_one : {X Y : Type 0} (f : X → Y) (xs : List X) (d : X) (ys : List Y) (i : ℕ) (y : Y) → i < length xs → i < length ys → take i ys ≡ map f (take i xs) → y ≡ f (get_or xs i d) → take (i + 1) (set ys i y) ≡ map f (take (i + 1) xs)
 fill_one {X} {Y} f xs d ys i y h l e g =
@@ -18,35 +18,10 @@ map_back f g e [] = refl
 map_back f g e (x ∷ xs) = let h = e x in let t = map_back f g e xs in cc (h, t)
 
 -- what stands behind place i after one more place is filled
-drop-one : {X : Type 0} (xs : List X) (i : ℕ) → drop (suc i) xs ≡ drop 1 (drop i xs)
-drop-one [] zero = refl
-drop-one [] (suc i) = refl
-drop-one (x ∷ xs) zero = refl
-drop-one (x ∷ xs) (suc i) = drop-one xs i
-
-drop_behind : {X : Type 0} (xs : List X) (i : ℕ) (x : X) → drop (suc i) (set xs i x) ≡ drop (suc i) xs
-drop_behind [] i x = refl
-drop_behind (y ∷ xs) zero x = refl
-drop_behind (y ∷ xs) (suc i) x = drop_behind xs i x
-
-rest-one : {X : Type 0} (n : ℕ) (d : X) → drop 1 (replicate n d) ≡ replicate (n - 1) d
-rest-one zero d = refl
-rest-one (suc n) d = ap (λ (k : ℕ). replicate k d) (let q : n ≡ suc n - 1 = omega arith in q)
-
 pub behind_one : {X : Type 0} (xs : List X) (i : ℕ) (x d : X) → drop i xs ≡ replicate (128 - i) d → drop (i + 1) (set xs i x) ≡ replicate (128 - (i + 1)) d
 behind_one {X} xs i x d e =
-    ap (λ (k : ℕ). drop k (set xs i x)) (add-one i)
-    ∙ drop_behind xs i x
-    ∙ drop-one xs i
+    drop-set-lt (i + 1) xs i x (omega arith)
+    ∙ sym (drop-drop 1 i xs)
     ∙ ap (drop 1) e
-    ∙ rest-one (128 - i) d
+    ∙ drop-replicate 1 (128 - i) d
     ∙ ap (λ (k : ℕ). replicate k d) (let q : 128 - i - 1 ≡ 128 - (i + 1) = omega arith in q)
-
--- one more place written over with one thing
-pub blank_one : {X : Type 0} (y : X) (i : ℕ) (xs : List X) → i < length xs → set (replicate i y ++ drop i xs) i y ≡ replicate (i + 1) y ++ drop (i + 1) xs
-blank_one {X} y i xs h = go i xs h ∙ ap (λ (k : ℕ). replicate k y ++ drop k xs) (sym (add-one i))
-  where
-    go : (i : ℕ) (xs : List X) → i < length xs → set (replicate i y ++ drop i xs) i y ≡ replicate (suc i) y ++ drop (suc i) xs
-    go i [] h = absurd (omega arith)
-    go zero (x ∷ xs) h = refl
-    go (suc i) (x ∷ xs) h = ap (λ (t : List X). y ∷ t) (go i xs (omega arith))

@@ -8,7 +8,7 @@ use Rattle.std.proofs.Math.ListN.{get_or-map}
 use Rattle.std.proofs.lemmas.Nat.{shr_split, mod_below}
 use Rattle.std.proofs.lemmas.List.{length-take-le, get_or-take}
 use Rattle.std.proofs.lemmas.Bool.{cases_Bool, leb-true, ltb-true, le-leb, lt-ltb, and_parts, and_from}
-use Rattle.std.proofs.lemmas.Bool.Decides.{eqb_tells}
+use Rattle.std.proofs.lemmas.Bool.Decides.{eqb_tells, nat_tests}
 use Rattle.std.proofs.Math.Dec.{eqb}
 use Rattle.cover.specs.declared.node.Node.{Node}
 use Rattle.cover.specs.Tree.{first_key, past, stands, held, RowOf}
@@ -43,7 +43,8 @@ stands_at : (n : Node) (k : ℕ) → k / 2 ^ n.level ≡ n.index → stands n k 
 stands_at n k e =
     let low = subst (λ (x : ℕ). x * 2 ^ n.level + Prim.Native.Nat.◌%◌ k (2 ^ n.level) ≡ k) e (shr_split k n.level) in
     let less = mod_below k (2 ^ n.level) (pow_pos n.level) in
-    and_from (leb (first_key n) k) (ltb k (past n)) (le-leb (first_key n) k (omega arith)) (lt-ltb k (past n) (omega (arith, native.Mathlib.Nat.add-mul n.index 1 (2 ^ n.level))))
+    let end = native.Mathlib.Nat.add-mul n.index 1 (2 ^ n.level) in
+    grind (arith, nat_tests)
 
 stands-not : (n : Node) (k : ℕ) → (k / 2 ^ n.level ≡ n.index → ⊥) → stands n k ≡ false
 stands-not n k not =

@@ -1,9 +1,10 @@
 -- What an issue comes to. Assumes nothing.
-use Rattle.std.proofs.Common.{◌≡◌, ℕ, ◌+◌, ◌-◌, ◌^◌, ◌<◌, ◌≤◌, true, cond, eqb, ltb, leb, List, [], ◌∷◌, ◌++◌, map, length, take, Ok, Err, sym, refl, ap, ◌∙◌, subst, arith}
+use Rattle.std.proofs.Common.{◌≡◌, ℕ, ◌+◌, ◌-◌, ◌^◌, ◌<◌, ◌≤◌, Bool, true, false, cond, eqb, ltb, leb, List, [], ◌∷◌, ◌++◌, map, length, take, Ok, Err, sym, refl, ap, ◌∙◌, subst, arith}
 use mathlib.Core.List.{Memᴰ}
 use Rattle.refusal.specs.declared.Refusal.{Refusal}
-use Rattle.refusal.specs.declared.Refusal.TheVariants.{EmptySpan, SpanPastEnd, SpanNotAbove, NoSpans, TooManySpans, TooManyRows, ShortScratch}
-use Rattle.std.proofs.lemmas.Bool.{both_ways, cond-true, cond-false, leb-false, ltb-false, le-ltb, lt-ltb, ne_eqb, or_left, le-leb, and_from}
+use Rattle.refusal.specs.declared.Refusal.TheVariants.{TooManyRows}
+use Rattle.std.proofs.lemmas.Bool.Decides.{nat_tests}
+use Rattle.std.proofs.lemmas.Bool.{both_ways, lt-ltb, or_left, le-leb, and_from}
 use Rattle.cover.specs.declared.node.Node.{Node}
 use Rattle.cover.specs.declared.node.Span.{Span}
 use Rattle.cover.specs.Tree.{Cover, named, named_by, Spaced, sound}
@@ -17,35 +18,33 @@ use Rattle.grant.specs.declared.grant.Grant.{Grant}
 use Rattle.grant.specs.Seeds.{Encrypted, walk}
 use Rattle.grant.specs.Rows.{node_of, sound_rows}
 use Rattle.grant.specs.Rules.{span_rules, issue_rules}
-use Rattle.grant.proofs.Verdicts.{verdict, judged-found, judged-rest, judged-none}
+use Rattle.grant.proofs.Verdicts.{verdict, refused-ok, judged-found, judged-rest}
 use Rattle.grant.specs.Grants.{rows_of, seeded}
 use Rattle.grant.specs.Calls.{Issues}
 use Rattle.grant.proofs.Filled.{from-map, map_back}
+
+-- a list of spans that is not empty
+pub some_spans : (ss : List Span) (b : Bool) → b ≡ eqb (length ss) 0 → b ≡ false → 0 < length ss
+some_spans ss b e f = grind (arith, nat_tests)
 
 -- spans without a fault are spaced
 pub spaced-from : (from limit : ℕ) (ss : List Span) → verdict (span_rules from limit ss) ≡ Ok tt → Spaced from limit ss
 spaced-from from limit [] e = tt
 spaced-from from limit (s ∷ ss) e =
-    let rest = span_rules (s.to + 1) limit ss in
-    let a = judged-none (leb s.to s.from, EmptySpan) ((ltb limit s.to, SpanPastEnd) ∷ (ltb s.from from, SpanNotAbove) ∷ rest) e in
-    let b = judged-none (ltb limit s.to, SpanPastEnd) ((ltb s.from from, SpanNotAbove) ∷ rest) a.1 in
-    let c = judged-none (ltb s.from from, SpanNotAbove) rest b.1 in
-    (ltb-false s.from from c.0, leb-false s.to s.from a.0, ltb-false limit s.to b.0, spaced-from (s.to + 1) limit ss c.1)
+    let rest : verdict (span_rules (s.to + 1) limit ss) ≡ Ok tt = grind (arith, nat_tests) in
+    (grind (arith, nat_tests), grind (arith, nat_tests), grind (arith, nat_tests), spaced-from (s.to + 1) limit ss rest)
 
 module _ (words height : ℕ) (ss : List Span) (room : 66 ≤ words) (some : 0 < length ss) (few : length ss ≤ 16) where
   after-counts : (rows : ℕ) → verdict (issue_rules words height ss rows) ≡ verdict (span_rules 0 (2 ^ height) ss ++ ((ltb 128 rows, TooManyRows) ∷ []))
-  after-counts rows =
-      let more = span_rules 0 (2 ^ height) ss ++ ((ltb 128 rows, TooManyRows) ∷ []) in
-      cond-false (ltb words 66) (Err ShortScratch) (verdict ((eqb (length ss) 0, NoSpans) ∷ (ltb 16 (length ss), TooManySpans) ∷ more)) (le-ltb words 66 room)
-      ∙ cond-false (eqb (length ss) 0) (Err NoSpans) (verdict ((ltb 16 (length ss), TooManySpans) ∷ more)) (ne_eqb (length ss) 0 (λ z. omega arith))
-      ∙ cond-false (ltb 16 (length ss)) (Err TooManySpans) (verdict more) (le-ltb 16 (length ss) few)
+  after-counts rows = grind (arith, nat_tests)
+
+  -- a refusal leaves the grant as it was
+  refused : {C : Type 0} (e : Encrypted) (root : Block) (g : Grant C) (why : Refusal) → ((rows : List Node) → Cover height (named_by ss) rows → Err why ≡ verdict (issue_rules words height ss (length rows))) → Issues e height root ss words g (Err why) g
+  refused e root g why a = record { answers = a; holds = λ z. absurd (refused-ok z); kept = λ m z. refl }
 
   pub span_fault : {C : Type 0} (e : Encrypted) (root : Block) (g : Grant C) (n : Refusal) → Err n ≡ verdict (span_rules 0 (2 ^ height) ss) → Issues e height root ss words g (Err n) g
-  span_fault e root g n f = record {
-    answers = λ rows c. sym (after-counts (length rows) ∙ judged-found (span_rules 0 (2 ^ height) ss) ((ltb 128 (length rows), TooManyRows) ∷ []) n (sym f));
-    holds = λ z. let q : ◌≡◌ {A = ℕ} 0 1 = cc in absurd (omega arith);
-    kept = λ m z. refl;
-  }
+  span_fault e root g n f =
+      refused e root g n (λ rows c. sym (after-counts (length rows) ∙ judged-found (span_rules 0 (2 ^ height) ss) ((ltb 128 (length rows), TooManyRows) ∷ []) n (sym f)))
 
   module _ (fine : Ok tt ≡ verdict (span_rules 0 (2 ^ height) ss)) where
     cover : Cover height (named_by ss) (spans_rows height ss)
@@ -55,12 +54,9 @@ module _ (words height : ℕ) (ss : List Span) (room : 66 ≤ words) (some : 0 <
     after_spans rows c =
         after-counts (length rows) ∙ judged-rest (span_rules 0 (2 ^ height) ss) ((ltb 128 (length rows), TooManyRows) ∷ []) (sym fine) ∙ ap (λ (x : List Node). cond (ltb 128 (length x)) (Err TooManyRows) (Ok tt)) (cover_unique height (named_by ss) rows (spans_rows height ss) c cover)
 
-    pub many_rows : {C : Type 0} (e : Encrypted) (root : Block) (g : Grant C) → 128 < length (spans_rows height ss) → Issues e height root ss words g (Err TooManyRows) g
-    many_rows e root g l = record {
-      answers = λ rows c. sym (after_spans rows c ∙ cond-true (ltb 128 (length (spans_rows height ss))) (Err TooManyRows) (Ok tt) (lt-ltb 128 (length (spans_rows height ss)) l));
-      holds = λ z. let q : ◌≡◌ {A = ℕ} 0 1 = cc in absurd (omega arith);
-      kept = λ m z. refl;
-    }
+    pub many_rows : {C : Type 0} (e : Encrypted) (root : Block) (g : Grant C) (why : Refusal) → why ≡ TooManyRows → 128 < length (spans_rows height ss) → Issues e height root ss words g (Err why) g
+    many_rows e root g why is l =
+        refused e root g why (λ rows c. let q = after_spans rows c in ap Err is ∙ grind (arith, nat_tests))
 
     pub low_rows : (i : ℕ) (d : Node) → i < length (spans_rows height ss) → (lib.ListN.get_or (spans_rows height ss) i d).level ≤ height
     low_rows i d h = (cover.row (lib.ListN.get_or (spans_rows height ss) i d) (Rattle.grant.proofs.Found.member_at (spans_rows height ss) i d h)).low
@@ -86,12 +82,12 @@ module _ (words height : ℕ) (ss : List Span) (room : 66 ≤ words) (some : 0 <
 
       pub accepted : {C : Type 0} (before after : Grant C) → after.height ≡ height → rows_of after ≡ take count rows → length (spans_rows height ss) ≤ 128 → Issues e height root ss words before (Ok tt) after
       accepted before after h same l = record {
-        answers = λ ns c. sym (after_spans ns c ∙ cond-false (ltb 128 (length (spans_rows height ss))) (Err TooManyRows) (Ok tt) (le-ltb 128 (length (spans_rows height ss)) l));
+        answers = λ ns c. let q = after_spans ns c in grind (arith, nat_tests);
         holds = λ z. record {
           height = h;
           rows = subst (λ (x : List Node). Cover height (named_by ss) x) (sym (ap (map node_of) same ∙ nodes)) cover;
           seeds = λ r m. let q = from-map (seeded e root height) (spans_rows height ss) r (subst (λ (x : List Row). Memᴰ r x) (same ∙ made) m) in
               ap (λ (x : Row). x.seed) q.2 ∙ ap (λ (x : Row). walk e root (height - x.level) x.index) (sym q.2);
         };
-        kept = λ m z. let q : ◌≡◌ {A = ℕ} 0 1 = cc in absurd (omega arith);
+        kept = λ m z. absurd (refused-ok (sym z));
       }

@@ -2,7 +2,6 @@ mod Verdicts
 mod Walks
 mod Found
 mod Keyed
-mod Faults
 mod Filled
 mod Added
 pub mod Serving

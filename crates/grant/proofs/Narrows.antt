@@ -1,8 +1,10 @@
 -- What a narrow comes to. Assumes nothing.
-use Rattle.std.proofs.Common.{◌≡◌, ℕ, ◌^◌, ◌<◌, ◌≤◌, true, cond, eqb, ltb, leb, List, [], ◌∷◌, map, length, get_or, take, Some, None, Ok, Err, Option, sym, refl, ap, ◌∙◌, subst, arith, pow_mono}
+use Rattle.std.proofs.Common.{◌≡◌, ℕ, ◌^◌, ◌<◌, ◌≤◌, true, List, map, length, get_or, take, Some, None, Ok, Err, Option, sym, refl, ap, ◌∙◌, subst, arith, pow_mono}
 use mathlib.Core.List.{Memᴰ}
-use Rattle.refusal.specs.declared.Refusal.TheVariants.{EmptySpan, SpanPastEnd, TooManyRows, ShortScratch, NothingLeft}
-use Rattle.std.proofs.lemmas.Bool.{both_ways, cond-true, cond-false, le-ltb, lt-ltb, lt-leb, ne_eqb, eq-eqb}
+use Rattle.refusal.specs.declared.Refusal.{Refusal}
+use Rattle.refusal.specs.declared.Refusal.TheVariants.{TooManyRows, NothingLeft}
+use Rattle.std.proofs.lemmas.Bool.{both_ways}
+use Rattle.std.proofs.lemmas.Bool.Decides.{nat_tests}
 use Rattle.cover.specs.declared.node.Node.{Node}
 use Rattle.cover.specs.declared.node.Span.{Span}
 use Rattle.cover.specs.Tree.{first_key, past, KeySet, Cover, held, named, both, sound}
@@ -17,8 +19,8 @@ use Rattle.grant.specs.declared.grant.row.Row.{Row}
 use Rattle.grant.specs.declared.grant.Grant.{Grant}
 use Rattle.grant.specs.Seeds.{Encrypted}
 use Rattle.grant.specs.Rows.{node_of, sound_rows}
-use Rattle.grant.specs.Rules.{narrow_rules}
-use Rattle.grant.proofs.Verdicts.{verdict}
+use Rattle.grant.specs.Rules.{bound_rules, narrow_rules}
+use Rattle.grant.proofs.Verdicts.{verdict, refused-ok}
 use Rattle.grant.specs.Grants.{rows_of, nodes_of, numbers_of, row_over, seed_from, lowered, Placed}
 use Rattle.grant.specs.Calls.{ComesFrom, Narrows}
 use Rattle.grant.proofs.Filled.{from-map, map_back}
@@ -54,42 +56,29 @@ above height keys s rs n c m = by (row_over rs (first_key n)) refl
         let same : node_of y ≡ from.0 = one-row 0 (2 ^ height) (map node_of rs) (node_of y) from.0 (first_key n) c.rising (member_map node_of rs y q.0) from.1 o.0 o.1 low high in
         record { row = y; found = u; level = omega (arith, lower, ap (λ (x : Node). x.level) same) }
 
-module _ {C : Type 0} (words : ℕ) (s : Span) (g : Grant C) (room : 66 ≤ words) (some : s.from < s.to) (fits : s.to ≤ 2 ^ g.height) where
+module _ {C : Type 0} (e : Encrypted) (words : ℕ) (s : Span) (g : Grant C) where
+  -- a refusal leaves the grant as it was
+  refused : (why : Refusal) → ((rows : List Node) → Cover g.height (both (numbers_of g) (named s)) rows → Err why ≡ verdict (narrow_rules words g.height s (length rows))) → Narrows e s words g (Err why) g
+  refused why a = record { answers = a; height = λ z. absurd (refused-ok z); rows = λ z. absurd (refused-ok z); seeds = λ z. absurd (refused-ok z); kept = λ m z. refl }
+
+  pub bound_fault : (why : Refusal) → 66 ≤ words → Err why ≡ verdict (bound_rules (2 ^ g.height) s) → Narrows e s words g (Err why) g
+  bound_fault why room f = refused why (λ rows d. grind (arith, nat_tests))
+
+module _ {C : Type 0} (e : Encrypted) (words : ℕ) (s : Span) (g : Grant C) (room : 66 ≤ words) (fine : Ok tt ≡ verdict (bound_rules (2 ^ g.height) s)) where
   own : Cover g.height (numbers_of g) (nodes_of g)
   own = sound-cover g.height (nodes_of g) g.sound
 
   left_covers : Cover g.height (both (numbers_of g) (named s)) (left_rows s (nodes_of g))
   left_covers = left-cover g.height (numbers_of g) s (nodes_of g) own
 
-  after_span : (rows : List Node) → Cover g.height (both (numbers_of g) (named s)) rows → verdict (narrow_rules words g.height s (length rows)) ≡ cond (eqb (length (left_rows s (nodes_of g))) 0) (Err NothingLeft) (cond (ltb 128 (length (left_rows s (nodes_of g)))) (Err TooManyRows) (Ok tt))
-  after_span rows d =
-      let n = length rows in
-      cond-false (ltb words 66) (Err ShortScratch) (verdict ((leb s.to s.from, EmptySpan) ∷ (ltb (2 ^ g.height) s.to, SpanPastEnd) ∷ (eqb n 0, NothingLeft) ∷ (ltb 128 n, TooManyRows) ∷ [])) (le-ltb words 66 room)
-      ∙ cond-false (leb s.to s.from) (Err EmptySpan) (verdict ((ltb (2 ^ g.height) s.to, SpanPastEnd) ∷ (eqb n 0, NothingLeft) ∷ (ltb 128 n, TooManyRows) ∷ [])) (lt-leb s.to s.from some)
-      ∙ cond-false (ltb (2 ^ g.height) s.to) (Err SpanPastEnd) (verdict ((eqb n 0, NothingLeft) ∷ (ltb 128 n, TooManyRows) ∷ [])) (le-ltb (2 ^ g.height) s.to fits)
-      ∙ ap (λ (x : List Node). cond (eqb (length x) 0) (Err NothingLeft) (cond (ltb 128 (length x)) (Err TooManyRows) (Ok tt))) (cover_unique g.height (both (numbers_of g) (named s)) rows (left_rows s (nodes_of g)) d left_covers)
+  same_count : (rows : List Node) → Cover g.height (both (numbers_of g) (named s)) rows → length rows ≡ length (left_rows s (nodes_of g))
+  same_count rows d = ap length (cover_unique g.height (both (numbers_of g) (named s)) rows (left_rows s (nodes_of g)) d left_covers)
 
-  pub many_left : (e : Encrypted) → 128 < length (left_rows s (nodes_of g)) → Narrows e s words g (Err TooManyRows) g
-  many_left e l =
-      let n = length (left_rows s (nodes_of g)) in
-      record {
-        answers = λ rows d. sym (after_span rows d ∙ cond-false (eqb n 0) (Err NothingLeft) (cond (ltb 128 n) (Err TooManyRows) (Ok tt)) (ne_eqb n 0 (λ z. omega arith)) ∙ cond-true (ltb 128 n) (Err TooManyRows) (Ok tt) (lt-ltb 128 n l));
-        height = λ z. let q : ◌≡◌ {A = ℕ} 0 1 = cc in absurd (omega arith);
-        rows = λ z. let q : ◌≡◌ {A = ℕ} 0 1 = cc in absurd (omega arith);
-        seeds = λ z. let q : ◌≡◌ {A = ℕ} 0 1 = cc in absurd (omega arith);
-        kept = λ m z. refl;
-      }
+  pub many_left : (why : Refusal) → why ≡ TooManyRows → 128 < length (left_rows s (nodes_of g)) → Narrows e s words g (Err why) g
+  many_left why is l = refused e words s g why (λ rows d. let n = same_count rows d in ap Err is ∙ grind (arith, nat_tests))
 
-  pub none_left : (e : Encrypted) → length (left_rows s (nodes_of g)) ≡ 0 → Narrows e s words g (Err NothingLeft) g
-  none_left e l =
-      let n = length (left_rows s (nodes_of g)) in
-      record {
-        answers = λ rows d. sym (after_span rows d ∙ cond-true (eqb n 0) (Err NothingLeft) (cond (ltb 128 n) (Err TooManyRows) (Ok tt)) (eq-eqb n 0 l));
-        height = λ z. let q : ◌≡◌ {A = ℕ} 0 1 = cc in absurd (omega arith);
-        rows = λ z. let q : ◌≡◌ {A = ℕ} 0 1 = cc in absurd (omega arith);
-        seeds = λ z. let q : ◌≡◌ {A = ℕ} 0 1 = cc in absurd (omega arith);
-        kept = λ m z. refl;
-      }
+  pub none_left : length (left_rows s (nodes_of g)) ≡ 0 → Narrows e s words g (Err NothingLeft) g
+  none_left l = refused e words s g NothingLeft (λ rows d. let n = same_count rows d in grind (arith, nat_tests))
 
   pub placed : (i : ℕ) (d : Node) → i < length (left_rows s (nodes_of g)) → Placed (rows_of g) (get_or (left_rows s (nodes_of g)) i d)
   placed i d h =
@@ -105,7 +94,7 @@ module _ {C : Type 0} (words : ℕ) (s : Span) (g : Grant C) (room : 66 ≤ word
         under = λ y u. let same : a.row ≡ y = cc (a.found, u) in subst (λ (x : Row). n.level ≤ x.level) same a.level;
       }
 
-  module _ (e : Encrypted) (count : ℕ) (rows : List Row) (made : take count rows ≡ map (lowered e (rows_of g)) (left_rows s (nodes_of g))) where
+  module _ (count : ℕ) (rows : List Row) (made : take count rows ≡ map (lowered e (rows_of g)) (left_rows s (nodes_of g))) where
     nodes : map node_of (take count rows) ≡ left_rows s (nodes_of g)
     nodes = ap (map node_of) made ∙ map_back (lowered e (rows_of g)) node_of (λ n. refl) (left_rows s (nodes_of g))
 
@@ -124,11 +113,10 @@ module _ {C : Type 0} (words : ℕ) (s : Span) (g : Grant C) (room : 66 ≤ word
 
     pub narrowed_to : (after : Grant C) → after.height ≡ g.height → rows_of after ≡ take count rows → 0 < length (left_rows s (nodes_of g)) → length (left_rows s (nodes_of g)) ≤ 128 → Narrows e s words g (Ok tt) after
     narrowed_to after h same some l =
-        let n = length (left_rows s (nodes_of g)) in
         record {
-          answers = λ ns d. sym (after_span ns d ∙ cond-false (eqb n 0) (Err NothingLeft) (cond (ltb 128 n) (Err TooManyRows) (Ok tt)) (ne_eqb n 0 (λ z. omega arith)) ∙ cond-false (ltb 128 n) (Err TooManyRows) (Ok tt) (le-ltb 128 n l));
+          answers = λ ns d. let n = same_count ns d in grind (arith, nat_tests);
           height = λ z. h;
           rows = λ z. subst (λ (x : List Node). Cover g.height (both (numbers_of g) (named s)) x) (sym (ap (map node_of) same ∙ nodes)) left_covers;
           seeds = λ z x m. seed_above x (subst (λ (r : List Row). Memᴰ x r) same m);
-          kept = λ m z. let q : ◌≡◌ {A = ℕ} 0 1 = cc in absurd (omega arith);
+          kept = λ m z. absurd (refused-ok (sym z));
         }

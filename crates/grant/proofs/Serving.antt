@@ -1,7 +1,8 @@
 -- Which keys a grant has that holds what was granted. Assumes nothing.
-use Rattle.std.proofs.Common.{◌≡◌, ℕ, ◌+◌, ◌-◌, ◌*◌, ◌/◌, ◌^◌, ◌<◌, ◌≤◌, Bool, true, false, cond, ◌||◌, ltb, leb, List, [], ◌∷◌, map, Some, None, Option, sym, refl, ap, ◌∙◌, ⊎_elim, mul_assoc, arith, pow_pos, pow-add}
+use Rattle.std.proofs.Common.{◌≡◌, ℕ, ◌+◌, ◌-◌, ◌*◌, ◌/◌, ◌^◌, ◌<◌, ◌≤◌, Bool, true, false, cond, ◌||◌, ltb, List, [], ◌∷◌, map, Some, None, Option, sym, refl, ap, ◌∙◌, ⊎_elim, mul_assoc, arith, pow_pos, pow-add}
 use native.Mathlib.Nat.{div-eq_of_lt-le}
-use Rattle.std.proofs.lemmas.Bool.{cases_lt, or_from, cond-true, cond-false, leb-true, ltb-true, lt-ltb, le-ltb, and_parts}
+use Rattle.std.proofs.lemmas.Bool.{cases_lt, or_from, cond-true, cond-false, lt-ltb, le-ltb}
+use Rattle.std.proofs.lemmas.Bool.Decides.{nat_tests}
 use Rattle.cover.specs.declared.node.Node.{Node}
 use Rattle.cover.specs.Tree.{first_key, past, stands, held}
 use Rattle.std.proofs.lemmas.Nat.{mul-le}
@@ -17,7 +18,7 @@ use Rattle.grant.proofs.Walks.{walk-walk}
 use Rattle.grant.proofs.Found.{under_member, member_map}
 
 pub stands_from : (n : Node) (k : ℕ) → stands n k ≡ true → (first_key n ≤ k) × (k < past n)
-stands_from n k e = let h = and_parts (leb (first_key n) k) (ltb k (past n)) e in (leb-true (first_key n) k h.0, ltb-true k (past n) h.1)
+stands_from n k e = grind (arith, nat_tests)
 
 -- the index of the node so many levels above that stands over the first key of a node
 pub index-above : (m n : Node) → n.level ≤ m.level → stands m (first_key n) ≡ true → m.index ≡ n.index / 2 ^ (m.level - n.level)

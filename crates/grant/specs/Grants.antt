@@ -61,17 +61,25 @@ pub record Holds {C : Type 0} (e : Encrypted) (a : Granted) (g : Grant C) : Type
 abbrev pub Serves : {C : Type 0} → Encrypted → Granted → Grant C → Type 0
 Serves e a g = (k : ℕ) → grant_words e (rows_of g) k ≡ only a.numbers (tree_words e a.height a.root) k
 
--- A node of a tree with its seed.
-abbrev pub seeded : Encrypted → Block → ℕ → Node → Row
-seeded e root height n = record { level = n.level; index = n.index; seed = walk e root (height - n.level) n.index }
+-- A node with its seed.
+abbrev pub seeded_by : (Node → Block) → Node → Row
+seeded_by seed n = record { level = n.level; index = n.index; seed = seed n }
 
--- A node with its seed from the row above it.
+-- The seed of a node from the root of its tree, and from the row above it.
+abbrev pub seed_under : Encrypted → Block → ℕ → Node → Block
+seed_under e root height n = walk e root (height - n.level) n.index
+
 abbrev pub seed_from : Encrypted → Option Row → Node → Block
 seed_from e None n = record { high = 0; low = 0 }
 seed_from e (Some y) n = walk e y.seed (y.level - n.level) n.index
 
+-- A node of a tree with its seed.
+abbrev pub seeded : Encrypted → Block → ℕ → Node → Row
+seeded e root height = seeded_by (seed_under e root height)
+
+-- A node with its seed from the row above it.
 abbrev pub lowered : Encrypted → List Row → Node → Row
-lowered e rs n = record { level = n.level; index = n.index; seed = seed_from e (row_over rs (first_key n)) n }
+lowered e rs = seeded_by (λ n. seed_from e (row_over rs (first_key n)) n)
 
 -- The node lies in a tree, and not above the row that stands over its first key, if one does.
 pub record Placed (rs : List Row) (n : Node) : Type 0 where

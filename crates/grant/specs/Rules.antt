@@ -12,6 +12,10 @@ Answer = Result (Unit {0}) Refusal
 abbrev pub height_rules : ℕ → Rules
 height_rules height = (not (nat_le 1 height && nat_le height 32), Height) ∷ []
 
+-- One span: by 2 when it is empty, by 3 when it passes the limit.
+abbrev pub bound_rules : ℕ → Span → Rules
+bound_rules limit s = (nat_le s.to s.from, EmptySpan) ∷ (nat_lt limit s.to, SpanPastEnd) ∷ []
+
 -- Span by span: by 2 when it is empty, by 3 when it passes the limit, by 4 when it begins before the given key, which for each span but
 -- the first is the one above the end of the span before it.
 abbrev pub span_rules : ℕ → ℕ → List Span → Rules

@@ -12,6 +12,7 @@ mod filling;
 mod issuing;
 mod narrowing;
 mod reading;
+mod seeding;
 
 mod row {
     use super::Block;
@@ -23,9 +24,19 @@ mod row {
         pub index: u64,
         pub seed: Block,
     }
+
+    impl Row {
+        // Row (0, 0) with seed zero, which stands where no row is.
+        pub(crate) const BLANK: Row = Row {
+            level: 0,
+            index: 0,
+            seed: Block { high: 0, low: 0 },
+        };
+    }
 }
 
 // Some keys of a tree under one cipher. The rows are the first `count`; behind them no seed is held, so that a narrowed grant keeps no old one.
+// Places and count stand here, and not as an `ArrayVec`, since no clause can speak of what stands behind the items of one.
 #[derive(Drop)]
 pub struct Grant<C> {
     height: u32,

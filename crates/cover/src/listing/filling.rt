@@ -1,13 +1,15 @@
 // Filling a list of nodes.
-ghost use Rattle.std.specs.Prelude.{◌≡◌, ◌≤◌, [], ◌∷◌, ◌++◌, length, take, MatchBool};
+ghost use Rattle.std.specs.Prelude.{◌≡◌, ◌≤◌, [], ◌∷◌, ◌++◌, length, take};
 ghost use Rattle.refusal.specs.Judged.{judged, left_by};
-ghost use Rattle.cover.specs.Cut.{cut as cut_rows, cut_rules, CutsCover, CutsNarrow};
+ghost use Rattle.cover.specs.Cut.{cut as cut_rows, cut_rules, Adds, CutsCover, CutsNarrow};
 ghost use Rattle.cover.specs.Listed.{listed};
 ghost use Rattle.cover.specs.Tree.{CoverIsOne, NoRowsNoKeys};
 
 use super::NodeList;
 use crate::cutting::cut;
+use crate::next::is_in_tree;
 use crate::node::{Node, Span};
+use arrayvec::ArrayVec;
 use refusal::Refusal;
 
 impl NodeList {
@@ -16,8 +18,7 @@ impl NodeList {
         ensures { listed result ≡ [] }
     {
         NodeList {
-            list: [Node { level: 0, index: 0 }; 128],
-            count: 0,
+            nodes: ArrayVec::new(),
         }
     }
 
@@ -26,20 +27,15 @@ impl NodeList {
         ensures nodes { result.now ≡ listed self.now }
         ensures few { length result.now ≤ 128 }
     {
-        &self.list[0..self.count]
+        self.nodes.as_slice()
     }
 
     // Adds a node, where there is room.
-    pub(crate) fn push(&mut self, node: Node) -> bool
-        ensures added { MatchBool result (listed self.new ≡ listed self.old ++ (node ∷ [])) (128 ≤ length (listed self.old)) }
-        ensures kept { take (length (listed self.old)) self.new.list ≡ listed self.old }
+    pub(crate) fn push(&mut self, node: Node) -> Result<(), Refusal>
+        ensures added { Adds result (listed self.old) (node ∷ []) (listed self.new) }
+        ensures kept { take (length (listed self.old)) (listed self.new) ≡ listed self.old }
     {
-        if self.count == 128 {
-            return false;
-        }
-        self.list[self.count] = node;
-        self.count += 1;
-        true
+        self.nodes.try_push(node).map_err(|_| Refusal::TooManyRows)
     }
 
     // Adds the nodes that a node gives, cut by the span. Cut so, a tree gives the cover of any spaced spans, and a cover that of what a span
@@ -52,13 +48,13 @@ impl NodeList {
         ensures one { CoverIsOne }
         ensures none { NoRowsNoKeys }
     {
-        if node.level > 32 || node.index >> (32 - node.level) != 0 {
+        if !is_in_tree(32, node) {
             return Err(Refusal::RowPlace);
         }
-        let count = self.count;
-        if !cut(node.level, node.index, span, self) {
-            self.count = count;
-            return Err(Refusal::TooManyRows);
+        let count = self.nodes.len();
+        if let Err(why) = cut(node.level, node.index, span, self) {
+            self.nodes.truncate(count);
+            return Err(why);
         }
         Ok(())
     }
