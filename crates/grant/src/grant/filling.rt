@@ -9,7 +9,7 @@ ghost use Rattle.grant.specs.Filling.{grant_data, add_rules, over, row_key};
 
 use super::{Grant, Row};
 use crate::descent::{figure, leaf};
-use cipher::{Block, Cipher};
+use cipher::Cipher;
 use cover::{Node, check_next};
 use group::Group;
 use refusal::Refusal;
@@ -51,11 +51,7 @@ impl<C> Grant<C> {
         ensures { grant_data result ≡ judged (check_rules height None (node_of row)) (height, row ∷ []) }
     {
         check_next(height, None, row.node())?;
-        let mut rows = [Row {
-            level: 0,
-            index: 0,
-            seed: Block { high: 0, low: 0 },
-        }; 128];
+        let mut rows = [Row::BLANK; 128];
         rows[0] = row;
         Ok(Grant {
             height,

@@ -6,7 +6,7 @@ ghost use Rattle.grant.specs.Grants.{rows_of, nodes_of, numbers_of, row_over, gr
 ghost use Rattle.grant.specs.Histories.{KeepsTo};
 
 use super::{Grant, Row};
-use cipher::{Block, Cipher};
+use cipher::Cipher;
 use group::Group;
 use source::KeySource;
 use std::marker::PhantomData;
@@ -20,11 +20,7 @@ impl<C> Grant<C> {
         Grant {
             height: 1,
             count: 1,
-            rows: [Row {
-                level: 0,
-                index: 0,
-                seed: Block { high: 0, low: 0 },
-            }; 128],
+            rows: [Row::BLANK; 128],
             cipher: PhantomData,
         }
     }
