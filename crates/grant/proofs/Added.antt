@@ -1,23 +1,22 @@
 -- A grant with one row more. Assumes nothing.
-use Rattle.std.proofs.Common.{◌≡◌, ℕ, suc, ◌+◌, ◌-◌, ◌^◌, ◌<◌, ◌≤◌, true, not, ◌&&◌, leb, List, [], ◌∷◌, map, length, set, Some, None, Ok, Err, Option, option_map, sym, refl, ap, ◌∙◌, arith, ◌++◌, get_or, take}
+use Rattle.std.proofs.Common.{◌≡◌, ℕ, suc, ◌+◌, ◌-◌, ◌^◌, ◌<◌, true, leb, List, [], ◌∷◌, map, length, set, Some, None, Ok, Err, Option, option_map, sym, refl, ap, ◌∙◌, arith}
 use Rattle.std.specs.List.{slice_get}
-use Rattle.std.proofs.lemmas.List.{take_more_set, map-append, take_more}
-use Rattle.std.proofs.lemmas.Bool.{cond-false, le-leb, leb-true, and_from, and_parts, not_from_true, not-false}
-use Rattle.std.proofs.lemmas.Bool.Decides.{nat_tests}
+use Rattle.std.proofs.lemmas.List.{take_more_set, map-append}
+use Rattle.std.proofs.lemmas.Bool.{le-leb, and_from}
 use Rattle.refusal.specs.declared.Refusal.{Refusal}
-use Rattle.refusal.specs.declared.Refusal.TheVariants.{Height, TooManyRows}
+use Rattle.refusal.specs.declared.Refusal.TheVariants.{TooManyRows}
 use Rattle.refusal.specs.Judged.{Rules, first, refusal}
 use Rattle.refusal.proofs.Judging.{refusal-judged}
 use Rattle.cover.specs.declared.node.Node.{Node}
 use Rattle.cover.specs.Tree.{sound}
-use Rattle.cover.specs.Next.{next_rules, check_rules, last_of}
+use Rattle.cover.specs.Next.{next_rules, last_of}
 use Rattle.cover.proofs.Passing.{sound_more}
 use Rattle.grant.specs.declared.grant.row.Row.{Row}
 use Rattle.grant.specs.declared.grant.Grant.{Grant}
 use Rattle.grant.specs.Rows.{node_of, sound_rows}
 use Rattle.grant.specs.Grants.{rows_of, nodes_of}
 use Rattle.grant.specs.Filling.{add_rules}
-use Rattle.grant.proofs.Verdicts.{verdict, judged-found, judged-rest, judged-none}
+use Rattle.grant.proofs.Verdicts.{verdict, judged-found, judged-rest}
 
 last_at : (before : Option Node) (r : Row) (rs : List Row) → last_of before (map node_of (r ∷ rs)) ≡ option_map node_of (slice_get (r ∷ rs) (length rs))
 last_at before r [] = refl

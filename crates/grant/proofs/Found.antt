@@ -1,5 +1,5 @@
 -- The row over a key. Assumes nothing.
-use Rattle.std.proofs.Common.{◌≡◌, ℕ, zero, suc, ◌+◌, ◌*◌, ◌/◌, ◌^◌, ◌<◌, ◌≤◌, Bool, true, false, cond, ltb, leb, List, [], ◌∷◌, map, length, get_or, take, Some, Option, ◌≢◌, ◌&&◌, sym, refl, ap, ◌∙◌, subst, arith, pow_pos}
+use Rattle.std.proofs.Common.{◌≡◌, ℕ, zero, suc, ◌+◌, ◌*◌, ◌/◌, ◌^◌, ◌<◌, ◌≤◌, Bool, true, false, cond, ltb, leb, List, [], ◌∷◌, map, length, get_or, take, Some, ◌≢◌, sym, refl, ap, ◌∙◌, subst, arith, pow_pos}
 use mathlib.Core.List.Memᴰ
 use mathlib.Core.List.{Memᴰ}
 use native.Mathlib.Nat.{div-eq_of_lt-le}
@@ -7,7 +7,7 @@ use Rattle.std.specs.List.{find}
 use Rattle.std.proofs.Math.ListN.{get_or-map}
 use Rattle.std.proofs.lemmas.Nat.{shr_split, mod_below}
 use Rattle.std.proofs.lemmas.List.{length-take-le, get_or-take}
-use Rattle.std.proofs.lemmas.Bool.{cases_Bool, leb-true, ltb-true, le-leb, lt-ltb, and_parts, and_from, cond-true, cond-false}
+use Rattle.std.proofs.lemmas.Bool.{cases_Bool, leb-true, ltb-true, and_parts}
 use Rattle.std.proofs.lemmas.Bool.Decides.{eqb_tells, nat_tests}
 use Rattle.std.proofs.Math.Dec.{eqb}
 use Rattle.cover.specs.declared.node.Node.{Node}
@@ -64,9 +64,9 @@ stands_is n k =
 pub find_over : (rs : List Row) (k : ℕ) → ((r : Row) → Memᴰ r rs → r.level ≤ 32) → find (over k) rs ≡ row_over rs k
 find_over [] k low = refl
 find_over (r ∷ rs) k low =
-    let here : over k r ≡ stands (node_of r) k = ap (λ (b : Bool). b && stands (node_of r) k) (le-leb r.level 32 (low r (Memᴰ.head refl))) in
+    let here = low r (Memᴰ.head refl) in
     let there = find_over rs k (λ x m. low x (Memᴰ.tail m)) in
-    ap (λ (b : Bool). cond b (Some r) (find (over k) rs)) here ∙ ap (λ (o : Option Row). cond (stands (node_of r) k) (Some r) o) there
+    grind (arith, nat_tests)
 
 pub under_member : (rs : List Row) (k : ℕ) (r : Row) → row_over rs k ≡ Some r → Memᴰ r rs × (stands (node_of r) k ≡ true)
 under_member [] k r e = let z : ◌≡◌ {A = ℕ} 0 1 = cc in absurd (omega arith)

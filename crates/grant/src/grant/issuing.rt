@@ -26,7 +26,12 @@ impl<C: Cipher> SeedSource for KeyTree<C> {
     ghost seed = { λ t n. seed_under C.encrypted t.root t.height.levels n };
 
     fn seed(&self, node: Node, path: &mut Path) -> Block {
-        descend::<C>(self.root, self.height.levels() - node.level, node.index, path)
+        descend::<C>(
+            self.root,
+            self.height.levels() - node.level,
+            node.index,
+            path,
+        )
     }
 }
 

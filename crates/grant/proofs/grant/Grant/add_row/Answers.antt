@@ -1,10 +1,8 @@
-use Rattle.std.proofs.Common.{◌<◌, leb, length, Ok, Err, sym, ap, ◌∙◌, arith, length-set}
+use Rattle.std.proofs.Common.{◌<◌, length, Err, sym, ap, ◌∙◌, arith, length-set}
 use Rattle.std.proofs.lemmas.List.{length-take-le}
 use Rattle.std.proofs.lemmas.Result.{err_from_is_err_and}
-use Rattle.std.proofs.lemmas.Bool.{cond-false, lt-leb}
-use Rattle.refusal.specs.declared.Refusal.TheVariants.{TooManyRows}
+use Rattle.std.proofs.lemmas.Bool.Decides.{nat_tests}
 use Rattle.grant.specs.Rows.{zero_row}
-use Rattle.grant.specs.Grants.{rows_of}
 use Rattle.grant.proofs.Filled.{behind_one}
 use Rattle.grant.proofs.Added.{added_sound, added_refused, added_passed}
 use Rattle.grant.proofs.grant.Grant.add_row.Goals as goal
@@ -34,4 +32,5 @@ pub returns-clause-answers : goal.returns-clause-answers
 returns-clause-answers g c =
     let s = c.args.self.now in
     let told = added_passed s c.args.row c.last_node.result c.node.result c.last_node.ensures c.node.ensures (sym c.in_ok-check_after.ensures.answers) in
-    sym (told ∙ cond-false (leb 128 (length (rows_of s))) (Err TooManyRows) (Ok tt) (lt-leb 128 (length (rows_of s)) (omega (arith, length-take-le s.count s.rows (omega arith)))))
+    let long = length-take-le s.count s.rows (omega arith) in
+    grind (arith, nat_tests)
