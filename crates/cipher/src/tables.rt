@@ -71,7 +71,7 @@ fn spread_entries() -> &'static [u32; 256]
     &SPREAD
 }
 
-// The S-box at x.
+// The S-box at x. Each table has its own reader, since it has its own kind of entry and its own rule.
 pub fn sub(x: u8) -> u8
     ensures { result ≡ sbox x }
 {

@@ -106,10 +106,6 @@ pub list_rules-more : (height : ℕ) (before : Option Node) (ns : List Node) (n 
 list_rules-more height before ns n =
     list_rules-append height before ns (n ∷ []) ∙ ap (λ (rs : Rules). list_rules height before ns ++ rs) (append-nil (next_rules height (last_of before ns) n))
 
-pub last_more : (before : Option Node) (ns : List Node) (n : Node) → last_of before (ns ++ (n ∷ [])) ≡ Some n
-last_more before [] n = refl
-last_more before (m ∷ ns) n = last_more (Some m) ns n
-
 pub sound_more : (height : ℕ) (ns : List Node) (n : Node) → sound height ns ≡ true → first (next_rules height (last_of None ns) n) ≡ None → sound height (ns ++ (n ∷ [])) ≡ true
 sound_more height ns n e p =
     (passing_is_sound height (ns ++ (n ∷ []))).0

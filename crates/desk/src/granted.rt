@@ -40,7 +40,7 @@ fn panel<G: Group + Display, C: Cipher>(
 
 pub fn panels(rt: &HostRuntime) -> anyhow::Result<()> {
     println!(rt; "grants, AES and crates")?;
-    let line = Count { value: 6 };
+    let line = Count::from(6);
     panel::<Count, Aes128>(rt, line, &mut [Count::identity(); 7])?;
     println!(rt; "grants, Speck and a tally")?;
     let parcel = Moments::parcel(1250)?;

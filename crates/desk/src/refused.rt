@@ -8,8 +8,8 @@ use store::FlatStore;
 pub fn all(rt: &HostRuntime) -> anyhow::Result<()> {
     println!(rt; "refusals")?;
     say_answer(rt, "a parcel of 2147483648 g", Moments::parcel(2147483648))?;
-    let keys = [10, 3, 20].map(|value| Count { value });
-    let line = Count { value: 5 };
+    let keys = [10, 3, 20].map(Count::from);
+    let line = Count::from(5);
     appends(rt, &keys, line)?;
     opens(rt, &keys, line)
 }

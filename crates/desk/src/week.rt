@@ -61,8 +61,8 @@ pub fn counts(rt: &HostRuntime) -> anyhow::Result<()> {
         55340232221,
         4611686018427387905,
     ]
-    .map(|value| Count { value });
-    let mut lines = [40, 6, 9, 12, 4, 11, 3].map(|value| Count { value });
+    .map(Count::from);
+    let mut lines = [40, 6, 9, 12, 4, 11, 3].map(Count::from);
     for (day, line) in lines.iter_mut().enumerate() {
         // Days 0 and 3 bring a delivery, the others a draw.
         if day != 0 && day != 3 {
@@ -84,7 +84,7 @@ fn compare(rt: &HostRuntime, keys: &[Count; 8], lines: &[Count; 7]) -> anyhow::R
         "two draws exchanged",
         is_double(&reader, lines, &others),
     )?;
-    others[2] = others[2].add(Count { value: 1 });
+    others[2] = others[2].add(Count::from(1));
     say_double(
         rt,
         "one crate more besides",

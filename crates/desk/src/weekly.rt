@@ -10,8 +10,8 @@ use store::FlatStore;
 
 pub fn weeks(rt: &HostRuntime) -> anyhow::Result<()> {
     println!(rt; "weeks")?;
-    let daily = from_fn(|i| Count { value: key_word(i) });
-    let weekly = [71, 5003, 90].map(|value| Count { value });
+    let daily = from_fn(|i| Count::from(key_word(i)));
+    let weekly = [71, 5003, 90].map(Count::from);
     play(rt, &daily, &weekly)
 }
 
@@ -20,8 +20,8 @@ fn play(rt: &HostRuntime, daily: &[Count; 15], weekly: &[Count; 3]) -> anyhow::R
     let mut cells = [Count::identity(); 14];
     let mut store = FlatStore::new(&mut cells);
     let epoch = Running::new(KeyList { keys: daily });
-    for value in 1..15 {
-        epoch.append(&mut store, Count { value })?;
+    for day in 1..15 {
+        epoch.append(&mut store, Count::from(day))?;
     }
     let hiding = KeyList { keys: weekly };
     let mut paper = [Count::identity(); 3];

@@ -34,11 +34,6 @@ member_map f (y ∷ xs) x m = mathlib.Core.Logic.⊎_elim (λ (e : x ≡ y). Mem
 row_in : (height count : ℕ) (rows : List Row) (r : Row) → sound_rows height count rows ≡ true → Memᴰ r (take count rows) → RowOf height (held (map node_of (take count rows))) (node_of r)
 row_in height count rows r e m = (sound-cover height (map node_of (take count rows)) e).row (node_of r) (member_map node_of (take count rows) r m)
 
-pub row_inside : (height count : ℕ) (rows : List Row) (i : ℕ) → sound_rows height count rows ≡ true → count ≤ length rows → i < count → RowOf height (held (map node_of (take count rows))) (node_of (get_or rows i no_row))
-row_inside height count rows i e fits h =
-    let m = member_at (take count rows) i no_row (omega (arith, length-take-le count rows fits)) in
-    row_in height count rows (get_or rows i no_row) e (subst (λ (r : Row). Memᴰ r (take count rows)) (get_or-take count rows i no_row h) m)
-
 stands_at : (n : Node) (k : ℕ) → k / 2 ^ n.level ≡ n.index → stands n k ≡ true
 stands_at n k e =
     let low = subst (λ (x : ℕ). x * 2 ^ n.level + Prim.Native.Nat.◌%◌ k (2 ^ n.level) ≡ k) e (shr_split k n.level) in

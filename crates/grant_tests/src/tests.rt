@@ -3,7 +3,7 @@ use Undone::{NotWiped, Refused};
 use cipher::{Aes128, Block, Cipher, Speck128};
 use cover::Span;
 use grant::{Grant, KeyTree, issue, narrow};
-use group::{Count, Moments};
+use group::{Count, Group, Moments};
 use refusal::Refusal;
 use sealing::{Running, open};
 use source::KeySource;
@@ -232,11 +232,11 @@ fn shared<C: Cipher>(
     a: usize,
     b: usize,
 ) -> Result<Result<u64, u32>, Refusal> {
-    let mut cells = [Count { value: 0 }; 6];
+    let mut cells = [Count::identity(); 6];
     let mut store = FlatStore::new(&mut cells);
     let epoch = Running::new(tree);
     for tens in 1..=6 {
-        epoch.append(&mut store, Count { value: 10 * tens })?;
+        epoch.append(&mut store, Count::from(10 * tens))?;
     }
     let sum: Result<Count, Refusal> = open(&store, grant, a, b);
     Ok(sum.map(|figure| figure.value).map_err(Refusal::number))

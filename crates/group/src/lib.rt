@@ -31,7 +31,7 @@ pub trait Group: Copy {
     // The figure that the words of a key make.
     ghost made: { List ℕ → Self };
 
-    // The figure of as many words as a key takes; the others are ignored.
+    // The figure of as many words as a key takes; the others are ignored, so this is no `From`.
     fn from_words(words: [u64; 3]) -> Self
         ensures { result ≡ made (take KEY_WORDS words) };
 

@@ -1,5 +1,5 @@
 // Numbers modulo 2^64.
-ghost use Rattle.std.specs.Prelude.{Some};
+ghost use Rattle.std.specs.Prelude.{◌≡◌, Some};
 ghost use Rattle.std.proofs.Common.{rules};
 ghost use Rattle.group.specs.Figures.{count_text};
 ghost use Rattle.group.specs.Kinds.{counts, word_count};
@@ -13,6 +13,14 @@ use std::fmt;
 #[derive(Clone, Copy, Debug, PartialEq, Eq)]
 pub struct Count {
     pub value: u64,
+}
+
+impl From<u64> for Count {
+    ghost from_gives = { λ n c. c.value ≡ n };
+
+    fn from(value: u64) -> Count {
+        Count { value }
+    }
 }
 
 impl Group for Count {

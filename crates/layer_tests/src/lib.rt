@@ -16,12 +16,6 @@ mod tests {
     use source::{KeyList, KeySource};
     use store::FlatStore;
 
-    const fn count(value: u64) -> Count
-        ensures { result.value ≡ value }
-    {
-        Count { value }
-    }
-
     fn value(key: Option<Count>) -> Option<u64>
         ensures { result ≡ shown key }
     {
@@ -55,23 +49,26 @@ mod tests {
 
     #[test]
     fn refusals_in_order(rt: HostRuntime) {
-        let some = [count(1)];
+        let some = [Count::from(1)];
         assert_eq!(rt; first_post(0, &mut [], &[], &[]), Err(20));
         assert_eq!(rt; first_post(65537, &mut [], &[], &[]), Err(20));
         assert_eq!(rt; first_post(65536, &mut [], &[], &[]), Err(31));
-        assert_eq!(rt; first_post(1, &mut [count(0)], &[], &[]), Err(33));
-        assert_eq!(rt; first_post(1, &mut [count(0)], &[], &some), Err(34));
-        assert_eq!(rt; first_post(65536, &mut [count(0)], &some, &some), Ok(0));
+        assert_eq!(rt; first_post(1, &mut [Count::from(0)], &[], &[]), Err(33));
+        assert_eq!(rt; first_post(1, &mut [Count::from(0)], &[], &some), Err(34));
+        assert_eq!(rt;
+            first_post(65536, &mut [Count::from(0)], &some, &some),
+            Ok(0)
+        );
     }
 
     // Of weeks of four days, and without days.
     #[test]
     fn coarse_has_multiples(rt: HostRuntime) {
-        let days = [count(10), count(3), count(20), count(7), count(50)];
-        let hiding = [count(100), count(200)];
+        let days = [10, 3, 20, 7, 50].map(Count::from);
+        let hiding = [100, 200].map(Count::from);
         let fine = KeyList { keys: &days };
         let other = KeyList { keys: &hiding };
-        let mut cells = [count(0); 2];
+        let mut cells = [Count::from(0); 2];
         let mut envelopes = FlatStore::new(&mut cells);
         assert_eq!(rt; number(post(4, &mut envelopes, &fine, &other)), Ok(0));
         assert_eq!(rt; number(post(4, &mut envelopes, &fine, &other)), Ok(1));
@@ -93,10 +90,10 @@ mod tests {
     // A reader with the other's first key alone has the first week alone; joined to the days, it has their sum.
     #[test]
     fn layers_on_layers(rt: HostRuntime) {
-        let days = [count(10), count(11), count(12)];
-        let hiding = [count(7), count(8)];
+        let days = [10, 11, 12].map(Count::from);
+        let hiding = [7, 8].map(Count::from);
         let fine = KeyList { keys: &days };
-        let mut cells = [count(0); 2];
+        let mut cells = [Count::from(0); 2];
         let mut envelopes = FlatStore::new(&mut cells);
         let other = KeyList { keys: &hiding };
         assert_eq!(rt; number(post(1, &mut envelopes, &fine, &other)), Ok(0));
@@ -104,7 +101,9 @@ mod tests {
         let reader = Coarse {
             step: 1,
             envelopes: &envelopes,
-            other: KeyList { keys: &[count(7)] },
+            other: KeyList {
+                keys: &[Count::from(7)],
+            },
         };
         assert_eq!(rt; value(reader.key(1)), None);
         assert_eq!(rt; value(joint_key(&reader, &fine, 0)), Some(20));
@@ -114,10 +113,10 @@ mod tests {
     // Months over weeks over days.
     #[test]
     fn coarse_on_coarse(rt: HostRuntime) {
-        let days = [count(10), count(11), count(12)];
-        let hiding = [count(7), count(8)];
+        let days = [10, 11, 12].map(Count::from);
+        let hiding = [7, 8].map(Count::from);
         let fine = KeyList { keys: &days };
-        let mut cells = [count(0); 2];
+        let mut cells = [Count::from(0); 2];
         let mut envelopes = FlatStore::new(&mut cells);
         let other = KeyList { keys: &hiding };
         assert_eq!(rt; number(post(2, &mut envelopes, &fine, &other)), Ok(0));
@@ -128,22 +127,22 @@ mod tests {
             other,
         };
         let upper = KeyList {
-            keys: &[count(5), count(6)],
+            keys: &[5, 6].map(Count::from),
         };
         assert_eq!(rt;
-            value(second_key(&mut [count(0); 2], 2, &weeks, &upper)),
+            value(second_key(&mut [Count::from(0); 2], 2, &weeks, &upper)),
             Some(12)
         );
         assert_eq!(rt;
-            value(second_key(&mut [count(0); 2], 4, &weeks, &upper)),
+            value(second_key(&mut [Count::from(0); 2], 4, &weeks, &upper)),
             None
         );
     }
 
     #[test]
     fn every_kind(rt: HostRuntime) {
-        let few = [count(1), count(2)];
-        let many = [count(10), count(u64::MAX), count(30)];
+        let few = [1, 2].map(Count::from);
+        let many = [Count::from(10), Count::from(u64::MAX), Count::from(30)];
         let (one, other) = (KeyList { keys: &few }, KeyList { keys: &many });
         assert_eq!(rt; value(joint_key(&one, &other, 1)), Some(1));
         assert_eq!(rt; value(joint_key(&one, &other, 2)), None);

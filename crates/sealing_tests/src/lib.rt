@@ -11,43 +11,39 @@ mod tests {
     use std::test::Fail;
     use store::{FlatStore, Store};
 
-    const fn count(value: u64) -> Count {
-        Count { value }
-    }
-
     // A change of -v.
-    const fn less(v: u64) -> Count {
-        Count {
-            value: v.wrapping_neg(),
-        }
+    fn less(v: u64) -> Count {
+        Count::from(v).negate()
     }
 
     #[test]
     fn counts(rt: HostRuntime) -> Result<(), Fail> {
-        let keys = [count(10), count(3), count(20), count(7)];
-        let mut cells = [count(99); 5];
+        let keys = [10, 3, 20, 7].map(Count::from);
+        let mut cells = [Count::from(99); 5];
         {
             let mut store = FlatStore::new(&mut cells);
             let epoch = Running::new(KeyList { keys: &keys });
-            assert_eq!(rt; epoch.append(&mut store, count(5))?, 0);
+            assert_eq!(rt; epoch.append(&mut store, Count::from(5))?, 0);
             assert_eq!(rt; epoch.append(&mut store, less(2))?, 1);
-            assert_eq!(rt; epoch.append(&mut store, count(4))?, 2);
+            assert_eq!(rt; epoch.append(&mut store, Count::from(4))?, 2);
             assert_eq!(rt;
-                epoch.append(&mut store, count(4)).map_err(Refusal::number),
+                epoch
+                    .append(&mut store, Count::from(4))
+                    .map_err(Refusal::number),
                 Err(34)
             );
             let epoch = epoch.close();
             assert_eq!(rt;
                 open(&store, epoch.keys(), 0, 3).map_err(Refusal::number),
-                Ok(count(7))
+                Ok(Count::from(7))
             );
             assert_eq!(rt;
                 open(&store, epoch.keys(), 1, 3).map_err(Refusal::number),
-                Ok(count(2))
+                Ok(Count::from(2))
             );
             assert_eq!(rt;
                 open(&store, epoch.keys(), 2, 2).map_err(Refusal::number),
-                Ok(count(0))
+                Ok(Count::from(0))
             );
         }
         assert_eq!(rt; cells[0].value, 12);
@@ -60,25 +56,27 @@ mod tests {
 
     #[test]
     fn opens_refused_in_order(rt: HostRuntime) -> Result<(), Fail> {
-        let keys = [count(10), count(3), count(20), count(7)];
-        let mut cells = [count(0); 2];
+        let keys = [10, 3, 20, 7].map(Count::from);
+        let mut cells = [Count::from(0); 2];
         let mut store = FlatStore::new(&mut cells);
         let epoch = Running::new(KeyList { keys: &keys });
-        epoch.append(&mut store, count(5))?;
+        epoch.append(&mut store, Count::from(5))?;
         epoch.append(&mut store, less(2))?;
         assert_eq!(rt;
-            epoch.append(&mut store, count(4)).map_err(Refusal::number),
+            epoch
+                .append(&mut store, Count::from(4))
+                .map_err(Refusal::number),
             Err(31)
         );
         let ends = KeyPair {
             from: 0,
-            before: count(10),
+            before: Count::from(10),
             to: 2,
-            after: count(20),
+            after: Count::from(20),
         };
         assert_eq!(rt;
             open(&store, &ends, 0, 2).map_err(Refusal::number),
-            Ok(count(3))
+            Ok(Count::from(3))
         );
         assert_eq!(rt; open(&store, &ends, 3, 1).map_err(Refusal::number), Err(1));
         assert_eq!(rt; open(&store, &ends, 1, 3).map_err(Refusal::number), Err(32));
@@ -90,23 +88,26 @@ mod tests {
 
     #[test]
     fn appends_refused_in_order(rt: HostRuntime) {
-        let keys = [count(1)];
+        let keys = [Count::from(1)];
         let none = Running::new(KeyList { keys: &keys[0..0] });
         let one = Running::new(KeyList { keys: &keys });
-        let mut spare = [count(0); 1];
+        let mut spare = [Count::from(0); 1];
         let mut full = FlatStore::new(&mut spare[0..0]);
         assert_eq!(rt;
-            none.append(&mut full, count(1)).map_err(Refusal::number),
+            none.append(&mut full, Count::from(1))
+                .map_err(Refusal::number),
             Err(31)
         );
-        let mut cells = [count(0); 1];
+        let mut cells = [Count::from(0); 1];
         let mut store = FlatStore::new(&mut cells);
         assert_eq!(rt;
-            none.append(&mut store, count(1)).map_err(Refusal::number),
+            none.append(&mut store, Count::from(1))
+                .map_err(Refusal::number),
             Err(33)
         );
         assert_eq!(rt;
-            one.append(&mut store, count(1)).map_err(Refusal::number),
+            one.append(&mut store, Count::from(1))
+                .map_err(Refusal::number),
             Err(34)
         );
         assert_eq!(rt; store.len(), 0);
@@ -141,43 +142,47 @@ mod tests {
 
     #[test]
     fn two_lines(rt: HostRuntime) {
-        let keys = [count(10), count(3), count(20)];
-        let mut cells = [count(0); 2];
+        let keys = [10, 3, 20].map(Count::from);
+        let mut cells = [Count::from(0); 2];
         assert_eq!(rt;
-            two_listed(&keys, &mut cells, count(5), less(6)).map_err(Refusal::number),
+            two_listed(&keys, &mut cells, Count::from(5), less(6)).map_err(Refusal::number),
             Ok(less(1))
         );
         assert_eq!(rt;
-            two_listed(&keys, &mut cells[0..1], count(5), count(6)).map_err(Refusal::number),
+            two_listed(&keys, &mut cells[0..1], Count::from(5), Count::from(6)).map_err(
+                Refusal::number
+            ),
             Err(31)
         );
         assert_eq!(rt;
-            two_listed(&keys[0..2], &mut cells, count(5), count(6)).map_err(Refusal::number),
+            two_listed(&keys[0..2], &mut cells, Count::from(5), Count::from(6)).map_err(
+                Refusal::number
+            ),
             Err(34)
         );
     }
 
     #[test]
     fn doubles(rt: HostRuntime) -> Result<(), Fail> {
-        let lines = [count(5), less(2), count(4)];
+        let lines = [Count::from(5), less(2), Count::from(4)];
         let ends = KeyPair {
             from: 0,
-            before: count(10),
+            before: Count::from(10),
             to: 3,
-            after: count(7),
+            after: Count::from(7),
         };
-        assert!(rt; is_double(&ends, &lines, &[count(1), count(1), count(5)]));
-        assert!(rt; !is_double(&ends, &lines, &[count(1), count(1), count(6)]));
-        assert!(rt; !is_double(&ends, &lines, &[count(1), count(6)]));
+        assert!(rt; is_double(&ends, &lines, &[1, 1, 5].map(Count::from)));
+        assert!(rt; !is_double(&ends, &lines, &[1, 1, 6].map(Count::from)));
+        assert!(rt; !is_double(&ends, &lines, &[1, 6].map(Count::from)));
         // The keys that show it: under them the others have the ciphertexts of the lines.
-        let keys = [count(10), less(1), count(19), count(7)];
-        let mut cells = [count(0); 3];
+        let keys = [Count::from(10), less(1), Count::from(19), Count::from(7)];
+        let mut cells = [Count::from(0); 3];
         {
             let mut store = FlatStore::new(&mut cells);
             let epoch = Running::new(KeyList { keys: &keys });
-            epoch.append(&mut store, count(1))?;
-            epoch.append(&mut store, count(1))?;
-            epoch.append(&mut store, count(5))?;
+            epoch.append(&mut store, Count::from(1))?;
+            epoch.append(&mut store, Count::from(1))?;
+            epoch.append(&mut store, Count::from(5))?;
         }
         assert_eq!(rt; cells[0].value, 12);
         assert_eq!(rt; cells[1].value, less(19).value);

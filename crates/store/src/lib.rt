@@ -20,7 +20,8 @@ pub const MAX_CAPACITY: usize = 1048576;
 pub trait Store<G: Group> {
     ghost contents: { Self → Contents G };
 
-    // The sums that the store keeps besides its figures are right. Every new store is sound.
+    // The sums that the store keeps besides its figures are right. Every new store is sound. It is a member, and no fact of a
+    // store's type: figures may count as values of any type, and a type keeps a fact only where it has at most one proof.
     ghost sound: { Self → Type 0 };
 
     // All the cells that were lent to the store, by whom, and what they hold once one more figure is put.
@@ -51,7 +52,7 @@ pub trait Store<G: Group> {
     fn get(&self, i: usize) -> Option<G>
         ensures { result ≡ nth (contents self.now).entries i };
 
-    // The sum of figures a to b - 1.
+    // The sum of figures a to b - 1. Two numbers and no `Range`: one that runs backward is empty, and here it is refused.
     fn total(&self, a: usize, b: usize) -> Result<G, Refusal>
         ensures refuses { refusal result ≡ first (total_rules (contents self.now) a b) }
         ensures figure { sound self.now → (x : G) → result ≡ Ok x → G.Group.kind.value x ≡ sum G.Group.kind (between a b (contents self.now).entries) };

@@ -40,7 +40,3 @@ sound_new kind p cells l j low col =
     let inside : at < p.cells = omega (arith, plan_cells p) in
     ap kind.value (get_or_append_left (replicate p.cells none) (drop p.cells cells) none at (omega arith) ∙ get_or-replicate p.cells at none none inside)
     ∙ kind.zero_counts ∙ sym (ap (sum kind) (between-beyond (j * p.shape.fan_out ^ l) ((j + 1) * p.shape.fan_out ^ l) [] (omega arith)))
-
--- a tree with no place for a figure
-pub sound_none : {G V : Type 0} (kind : Kind G V) (k : ℕ) (cells : List G) → 2 ≤ k → Sound kind k 0 1 0 cells
-sound_none kind k cells h l j low col = let w = width_most k 0 h l in absurd (omega arith)

@@ -11,10 +11,6 @@ mod tests {
     use tree_clients::{fill, two_tree};
     use tree_store::{Plan, TreeStore};
 
-    const fn count(value: u64) -> Count {
-        Count { value }
-    }
-
     // How many cells a plan needs, or why it is refused.
     fn needed(fan_out: usize, capacity: usize, cells: usize) -> Result<usize, u32> {
         Plan::new(fan_out, capacity, cells)
@@ -46,18 +42,24 @@ mod tests {
     fn ten_figures(rt: HostRuntime) -> Result<(), Fail> {
         let plan = Plan::new(4, 10, 15)?;
         assert_eq!(rt; plan.levels(), 3);
-        let mut cells = [count(7); 15];
+        let mut cells = [Count::from(7); 15];
         {
             let mut store = TreeStore::new(plan, &mut cells);
             for i in 1..11 {
-                assert_eq!(rt; store.put(count(i)).map_err(Refusal::number), Ok(()));
+                assert_eq!(rt; store.put(Count::from(i)).map_err(Refusal::number), Ok(()));
             }
-            assert_eq!(rt; store.put(count(11)).map_err(Refusal::number), Err(31));
+            assert_eq!(rt;
+                store.put(Count::from(11)).map_err(Refusal::number),
+                Err(31)
+            );
             assert_eq!(rt; store.len(), 10);
             for a in 0..11 {
                 for b in a..11 {
                     let sum = triangle(b as u64).wrapping_sub(triangle(a as u64));
-                    assert_eq!(rt; store.total(a, b).map_err(Refusal::number), Ok(count(sum)));
+                    assert_eq!(rt;
+                        store.total(a, b).map_err(Refusal::number),
+                        Ok(Count::from(sum))
+                    );
                 }
             }
             assert_eq!(rt; store.total(3, 2).map_err(Refusal::number), Err(1));
@@ -75,35 +77,62 @@ mod tests {
     #[test]
     fn too_few_cells(rt: HostRuntime) -> Result<(), Fail> {
         let plan = Plan::new(4, 10, 14)?;
-        let mut cells = [count(7); 13];
+        let mut cells = [Count::from(7); 13];
         {
             let mut store = TreeStore::new(plan, &mut cells);
             assert_eq!(rt; store.capacity(), 0);
-            assert_eq!(rt; store.put(count(1)).map_err(Refusal::number), Err(31));
-            assert_eq!(rt; store.total(0, 0).map_err(Refusal::number), Ok(count(0)));
+            assert_eq!(rt; store.put(Count::from(1)).map_err(Refusal::number), Err(31));
+            assert_eq!(rt;
+                store.total(0, 0).map_err(Refusal::number),
+                Ok(Count::from(0))
+            );
         }
         assert_eq!(rt; cells[0].value, 7);
         assert_eq!(rt; cells[12].value, 7);
-        assert_eq!(rt; fill(plan, &mut [count(7); 14], &[count(1); 12]), 10);
+        assert_eq!(rt;
+            fill(plan, &mut [Count::from(7); 14], &[Count::from(1); 12]),
+            10
+        );
         Ok(())
     }
 
     #[test]
     fn kinds(rt: HostRuntime) -> Result<(), Fail> {
         let plan = Plan::new(2, 2, 3)?;
-        let keys = [count(10), count(3), count(20)];
+        let keys = [10, 3, 20].map(Count::from);
         let source = KeyList { keys: &keys };
         assert_eq!(rt;
-            two_tree(plan, source, &mut [count(0); 3], count(5), count(6)).map_err(Refusal::number),
-            Ok(count(11))
+            two_tree(
+                plan,
+                source,
+                &mut [Count::from(0); 3],
+                Count::from(5),
+                Count::from(6)
+            )
+            .map_err(Refusal::number),
+            Ok(Count::from(11))
         );
         assert_eq!(rt;
-            two_tree(plan, source, &mut [count(0); 2], count(5), count(6)).map_err(Refusal::number),
+            two_tree(
+                plan,
+                source,
+                &mut [Count::from(0); 2],
+                Count::from(5),
+                Count::from(6)
+            )
+            .map_err(Refusal::number),
             Err(31)
         );
         let source = KeyList { keys: &keys[0..2] };
         assert_eq!(rt;
-            two_tree(plan, source, &mut [count(0); 3], count(5), count(6)).map_err(Refusal::number),
+            two_tree(
+                plan,
+                source,
+                &mut [Count::from(0); 3],
+                Count::from(5),
+                Count::from(6)
+            )
+            .map_err(Refusal::number),
             Err(34)
         );
         let keys = [Flags { bits: 12 }, Flags { bits: 10 }, Flags { bits: 6 }];

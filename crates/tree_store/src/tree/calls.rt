@@ -86,6 +86,7 @@ impl<'a, G: Group> Store<G> for TreeStore<'a, G> {
         Ok(())
     }
 
+    // As in a flat store; a body in the trait would have to ask every store for its cells.
     #[tactic(auto, using(crate::proofs::Shapes::used_long))]
     fn get(&self, i: usize) -> Option<G> {
         self.cells[..self.used].get(i).copied()
