@@ -5,7 +5,7 @@ ghost use Rattle.store.specs.Contents.{nth};
 ghost use Rattle.clients.specs.Two.{SumOfTwo, CellsOfTwo, both_left, two_rules};
 ghost use Rattle.clients.specs.Plain.{Sums, PlainSums};
 
-use group::Group;
+use group::{Count, Flags, Group, Moments};
 use refusal::Refusal;
 use sealing::{Running, open};
 use source::{KeyList, KeySource};
@@ -47,7 +47,7 @@ pub fn two_flat<G: Group, K: KeySource<G> + Drop>(
 pub fn two_listed<G: Group>(keys: &[G], cells: &mut [G], x: G, y: G) -> Result<G, Refusal>
     ensures answered { is_ok result ≡ true ↔ ((2 ≤ length cells.old) × (3 ≤ length keys.now)) }
     ensures figure { (v : G) → result ≡ Ok v → Sums G.Group.kind v x y }
-    ensures plainly { PlainSums }
+    ensures plainly { PlainSums ⟦<Count as Group>⟧.kind ⟦<Flags as Group>⟧.kind ⟦<Moments as Group>⟧.kind }
     ensures refuses { refusal result ≡ first (two_rules (nth keys.now) (min (length cells.old) 1048576)) }
     ensures memory { cells.new ≡ both_left G.Group.kind (nth keys.now) (min (length cells.old) 1048576) x y cells.old }
 {

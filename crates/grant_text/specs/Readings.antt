@@ -70,5 +70,5 @@ pub record Answered (bs : List ℕ) (answer : Answer) : Type 0 where
 
 -- A call's answer with the grant that it left.
 abbrev pub told : {C R : Type 0} → Result R Refusal → Grant C → Answer
-told (Ok x) g = Ok (g.height, rows_of g)
+told (Ok x) g = Ok (g.height.levels, rows_of g)
 told (Err why) g = Err why

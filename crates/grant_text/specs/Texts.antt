@@ -22,4 +22,4 @@ abbrev pub text : ℕ → List Row → List ℕ
 text height rows = heading height (length rows) ++ flat_map row_line rows
 
 abbrev pub text_of : {C : Type 0} → Grant C → List ℕ
-text_of g = text g.height (rows_of g)
+text_of g = text g.height.levels (rows_of g)

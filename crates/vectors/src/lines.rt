@@ -75,9 +75,9 @@ pub fn judge<C: Cipher>(line: &[u8]) -> Verdict
 // How many lines came to each verdict. The counts stop at the largest number that fits.
 #[derive(Clone, Copy, Default)]
 pub struct Tally {
-    agree: u64,
-    differ: u64,
-    malformed: u64,
+    pub agree: u64,
+    pub differ: u64,
+    pub malformed: u64,
 }
 
 impl Tally {
