@@ -1,8 +1,9 @@
 // Totals over stores, again and again, for a benchmark to time from C.
 #![tactic(auto)]
 
-ghost use Rattle.std.specs.Prelude.{◌≡◌, ◌%◌, ◌^◌, min, length, take};
+ghost use Rattle.std.specs.Prelude.{◌≡◌, ◌%◌, ◌^◌, length, take};
 ghost use Rattle.refusal.specs.Judged.{judged};
+ghost use Rattle.store.specs.Flat.{flat_places};
 ghost use Rattle.tree_store.specs.Plans.{plan_rules};
 ghost use Rattle.tree_clients.specs.Puts.{filled};
 ghost use Rattle.bench_totals.specs.Rounds.{span_sum, rounds_sum, planned_sum};
@@ -12,8 +13,8 @@ use refusal::Refusal;
 use store::{FlatStore, Store};
 use tree_store::{Plan, TreeStore};
 
-// Puts the figures, one after another; those that find the store full are refused. Of a tree, `tree_clients` has one that tells
-// its cells too, which no promise of every store does.
+// Puts the figures, one after another; those that find the store full are refused. `tree_clients` has the same for a tree, with
+// more promised: what a tree's cells hold is no promise of every store.
 fn put_all<S: Store<Count>>(store: &mut S, figures: &[Count])
     ensures leaves { S.Store.contents store.new ≡ filled (S.Store.contents store.old) figures.now }
     ensures keeps { S.Store.sound store.old → S.Store.sound store.new }
@@ -45,7 +46,7 @@ fn rounds_of<S: Store<Count>>(store: &S, rounds: usize) -> u64
 // On a flat store over the cells.
 #[unsafe(no_mangle)]
 pub extern "C" fn totals_flat(cells: &mut [Count], figures: &[Count], rounds: usize) -> u64
-    ensures { result ≡ rounds_sum (take (min (length cells.old) 1048576) figures.now) rounds }
+    ensures { result ≡ rounds_sum (take (flat_places (length cells.old)) figures.now) rounds }
 {
     let mut store = FlatStore::new(cells);
     put_all(&mut store, figures);

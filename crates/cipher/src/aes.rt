@@ -26,6 +26,7 @@ struct Running {
 
 const CONSTANTS: [u8; 10] = [0x01, 0x02, 0x04, 0x08, 0x10, 0x20, 0x40, 0x80, 0x1b, 0x36];
 
+// Halves by division and remainder, of which proofs have the laws; they compile to shifts.
 impl From<Block> for Words {
     ghost from_gives = { λ b s. state_of_words s ≡ state_of_block b };
 

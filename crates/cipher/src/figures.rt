@@ -1,4 +1,4 @@
-// The theorem on the published figures stands in the contract of a function, since only a contract's facts are asked for.
+// The theorem on the published figures, in a function of its own: its proof opens the ciphers, and no other proof should.
 ghost use Rattle.cipher.specs.Figures.{FiguresStand};
 
 pub fn hold()

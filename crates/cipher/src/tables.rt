@@ -75,12 +75,12 @@ fn spread_entries() -> &'static [u32; 256]
 pub fn sub(x: u8) -> u8
     ensures { result ≡ sbox x }
 {
-    sbox_entries()[x as usize]
+    sbox_entries()[usize::from(x)]
 }
 
 // What the byte x, in row 0, adds to its mixed column.
 pub fn spread(x: u8) -> u32
     ensures { column result ≡ spread_of x }
 {
-    spread_entries()[x as usize]
+    spread_entries()[usize::from(x)]
 }

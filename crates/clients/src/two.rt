@@ -1,7 +1,8 @@
 // Two lines are sealed and their sum is opened: in any store, over lent cells, and under listed keys.
-ghost use Rattle.std.specs.Prelude.{◌≡◌, ◌≤◌, min, true, ◌↔◌, [], length, is_ok, Ok};
+ghost use Rattle.std.specs.Prelude.{◌≡◌, ◌≤◌, true, ◌↔◌, [], length, is_ok, Ok};
 ghost use Rattle.refusal.specs.Judged.{first, refusal};
 ghost use Rattle.store.specs.Contents.{nth};
+ghost use Rattle.store.specs.Flat.{flat_places};
 ghost use Rattle.clients.specs.Two.{SumOfTwo, CellsOfTwo, both_left, two_rules};
 ghost use Rattle.clients.specs.Plain.{Sums, PlainSums};
 
@@ -36,8 +37,8 @@ pub fn two_flat<G: Group, K: KeySource<G> + Drop>(
     x: G,
     y: G,
 ) -> Result<G, Refusal>
-    ensures sums { SumOfTwo G.Group.kind (K.KeySource.keys source) (min (length cells.old) 1048576) x y result }
-    ensures memory { cells.new ≡ both_left G.Group.kind (K.KeySource.keys source) (min (length cells.old) 1048576) x y cells.old }
+    ensures sums { SumOfTwo G.Group.kind (K.KeySource.keys source) (flat_places (length cells.old)) x y result }
+    ensures memory { cells.new ≡ both_left G.Group.kind (K.KeySource.keys source) (flat_places (length cells.old)) x y cells.old }
 {
     let mut store = FlatStore::new(cells);
     two_in(source, &mut store, x, y)
@@ -48,8 +49,8 @@ pub fn two_listed<G: Group>(keys: &[G], cells: &mut [G], x: G, y: G) -> Result<G
     ensures answered { is_ok result ≡ true ↔ ((2 ≤ length cells.old) × (3 ≤ length keys.now)) }
     ensures figure { (v : G) → result ≡ Ok v → Sums G.Group.kind v x y }
     ensures plainly { PlainSums ⟦<Count as Group>⟧.kind ⟦<Flags as Group>⟧.kind ⟦<Moments as Group>⟧.kind }
-    ensures refuses { refusal result ≡ first (two_rules (nth keys.now) (min (length cells.old) 1048576)) }
-    ensures memory { cells.new ≡ both_left G.Group.kind (nth keys.now) (min (length cells.old) 1048576) x y cells.old }
+    ensures refuses { refusal result ≡ first (two_rules (nth keys.now) (flat_places (length cells.old))) }
+    ensures memory { cells.new ≡ both_left G.Group.kind (nth keys.now) (flat_places (length cells.old)) x y cells.old }
 {
     two_flat(KeyList { keys }, cells, x, y)
 }

@@ -23,7 +23,7 @@ impl Height {
     pub fn new(levels: u32) -> Result<Height, Refusal>
         ensures { told result ≡ judged (height_rules levels) levels }
     {
-        if levels < 1 || levels > 32 {
+        if !(1..=32).contains(&levels) {
             return Err(Refusal::Height);
         }
         Ok(Height { levels })

@@ -19,7 +19,7 @@ mod row {
     use super::Block;
 
     // A node of a tree with its seed. The node's two numbers stand beside the seed, as they do in a row's text.
-    #[derive(Clone, Copy)]
+    #[derive(Clone, Copy, PartialEq, Eq)]
     pub struct Row {
         pub level: u32,
         pub index: u64,

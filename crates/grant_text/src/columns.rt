@@ -39,7 +39,8 @@ fn blanks(s: &[u8]) -> usize
     s.iter().take_while(|b| **b == b' ').count()
 }
 
-// The number whose digits are the whole of `s`, with no zero before them but a lone 0.
+// The number whose digits are the whole of `s`, with no zero before them but a lone 0. The library's reader takes a sign and
+// leading zeros.
 fn read_decimal(s: &[u8]) -> Option<u64>
     ensures { MatchOption result ((n : ℕ) → n < 2 ^ 64 → s.now ≢ decimal n) (λ n. s.now ≡ decimal n) }
 {

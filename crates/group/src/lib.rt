@@ -35,6 +35,8 @@ pub trait Group: Copy {
     fn from_words(words: [u64; 3]) -> Self
         ensures { result ≡ made (take KEY_WORDS words) };
 
+    // Zero, sum and negation are methods of this one trait, which has their laws; the operators would be three traits more for
+    // every kind.
     fn identity() -> Self
         ensures { result ≡ kind.zero };
 
@@ -49,7 +51,7 @@ pub trait Group: Copy {
         ensures only { result ≡ true → kind.value self ≡ kind.value other }
         ensures whenever { kind.value self ≡ kind.value other → result ≡ true };
 
-    // From one to three of them.
+    // A key takes from one to three words.
     ghost one_to_three: { (1 ≤ KEY_WORDS) × (KEY_WORDS ≤ 3) };
 
     // KEY_WORDS, with what callers may know of it.

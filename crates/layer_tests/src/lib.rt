@@ -1,9 +1,10 @@
 // Worked cases of joint and coarse sources, run.
 #![tactic(auto)]
 
-ghost use Rattle.std.specs.Prelude.{◌≡◌, min, length};
+ghost use Rattle.std.specs.Prelude.{◌≡◌, length};
 ghost use Rattle.refusal.specs.Judged.{judged};
 ghost use Rattle.store.specs.Contents.{nth};
+ghost use Rattle.store.specs.Flat.{flat_places};
 ghost use Rattle.layers.specs.Posting.{post_rules};
 ghost use Rattle.layer_tests.specs.Shown.{shown, refused};
 
@@ -35,7 +36,7 @@ mod tests {
         fine: &[Count],
         other: &[Count],
     ) -> Result<usize, u32>
-        ensures { result ≡ refused (judged (post_rules step (nth fine.now) (nth other.now) (min (length cells.old) 1048576) 0) 0) }
+        ensures { result ≡ refused (judged (post_rules step (nth fine.now) (nth other.now) (flat_places (length cells.old)) 0) 0) }
     {
         let mut envelopes = FlatStore::new(cells);
         let answer = post(

@@ -4,7 +4,7 @@
 #[cfg(test)]
 mod tests {
     use clients::two_listed;
-    use group::{Count, Flags, Group, Moments};
+    use group::{Count, Flags, Moments};
     use refusal::Refusal;
     use sealing::{Running, is_double, open};
     use source::{KeyList, KeyPair};
@@ -13,7 +13,7 @@ mod tests {
 
     // A change of -v.
     fn less(v: u64) -> Count {
-        Count::from(v).negate()
+        Count::from(v.wrapping_neg())
     }
 
     #[test]

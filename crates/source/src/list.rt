@@ -14,6 +14,7 @@ impl<'a, G: Group> KeySource<G> for KeyList<'a, G> {
     ghost keys = { λ s. nth s.keys.now };
 
     fn key(&self, number: u64) -> Option<G> {
+        // A `usize` has 64 bits, so the cast needs no other way out.
         self.keys.get(number as usize).copied()
     }
 }

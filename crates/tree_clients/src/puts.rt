@@ -1,7 +1,8 @@
 // What puts leave in the cells that were lent to a tree store.
 ghost use Rattle.std.specs.Prelude.{◌≡◌, ◌<◌, ◌≤◌, min, List, length, take, drop};
-ghost use Rattle.tree_store.specs.Cells.{Entered, Holds, cleared};
+ghost use Rattle.tree_store.specs.Cells.{cleared};
 ghost use Rattle.tree_store.specs.Plans.{places};
+ghost use Rattle.tree_store.specs.Shapes.{EnteredIn, HoldsIn};
 ghost use Rattle.tree_store.specs.Trees.{tree, Summed};
 ghost use Rattle.tree_clients.specs.Puts.{filled, top};
 
@@ -11,8 +12,8 @@ use tree_store::{Plan, TreeStore};
 
 // Puts two figures into a new tree.
 pub fn two_puts<G: Group>(plan: Plan, cells: &mut [G], x: G, y: G)
-    ensures both { plan.cells ≤ length cells.old → 2 ≤ plan.shape.capacity → (between : List G) × Entered G.Group.kind plan.shape.fan_out plan.shape.capacity plan.shape.levels 0 x (cleared G.Group.kind.zero plan.cells cells.old) between × Entered G.Group.kind plan.shape.fan_out plan.shape.capacity plan.shape.levels 1 y between cells.new }
-    ensures one { plan.cells ≤ length cells.old → plan.shape.capacity ≡ 1 → Entered G.Group.kind plan.shape.fan_out plan.shape.capacity plan.shape.levels 0 x (cleared G.Group.kind.zero plan.cells cells.old) cells.new }
+    ensures both { plan.cells ≤ length cells.old → 2 ≤ plan.shape.capacity → (between : List G) × EnteredIn G.Group.kind plan.shape 0 x (cleared G.Group.kind.zero plan.cells cells.old) between × EnteredIn G.Group.kind plan.shape 1 y between cells.new }
+    ensures one { plan.cells ≤ length cells.old → plan.shape.capacity ≡ 1 → EnteredIn G.Group.kind plan.shape 0 x (cleared G.Group.kind.zero plan.cells cells.old) cells.new }
     ensures spares { length cells.old < plan.cells → cells.new ≡ cells.old }
 {
     let mut store = TreeStore::new(plan, cells);
@@ -38,7 +39,7 @@ fn put_all<'a, G: Group>(store: &mut TreeStore<'a, G>, figures: &[G])
 // Puts the figures into a new tree, and answers how many it took.
 pub fn fill<G: Group>(plan: Plan, cells: &mut [G], figures: &[G]) -> usize
     ensures count { result ≡ min (places plan (length cells.old)) (length figures.now) }
-    ensures holds { plan.cells ≤ length cells.old → Holds G.Group.kind plan.shape.fan_out plan.shape.capacity plan.shape.levels (take result figures.now) cells.new }
+    ensures holds { plan.cells ≤ length cells.old → HoldsIn G.Group.kind plan.shape (take result figures.now) cells.new }
     ensures beyond { drop plan.cells cells.new ≡ drop plan.cells cells.old }
     ensures spares { length cells.old < plan.cells → cells.new ≡ cells.old }
 {

@@ -1,6 +1,6 @@
 // A store that keeps sums of its figures in a tree of cells.
 ghost use Rattle.std.specs.Prelude.{◌≤◌, length};
-ghost use Rattle.tree_store.specs.Levels.{level_start};
+ghost use Rattle.tree_store.specs.Shapes.{cells_of};
 
 pub mod calls;
 mod walk;
@@ -14,6 +14,6 @@ pub struct TreeStore<'a, G> {
     cells: &'a mut [G],
     shape: Shape,
     used: usize,
-    ghost room: { level_start shape.fan_out shape.capacity shape.levels ≤ length cells.now },
+    ghost room: { cells_of shape ≤ length cells.now },
     ghost within: { used ≤ shape.capacity },
 }

@@ -4,6 +4,7 @@ ghost use Rattle.vectors.specs.Hex.{block_of, digit_of, number_from};
 
 use cipher::Block;
 
+// Small letters only, where the library's reader takes capitals too.
 fn digit(b: u8) -> Option<u8>
     ensures { result ≡ digit_of b }
 {

@@ -122,8 +122,8 @@ fn newline_at(text: &[u8]) -> Option<usize>
     text.iter().position(|b| *b == b'\n')
 }
 
-// The first line of a text, without the newline that ends it, and what follows. A text that ends in a newline has no empty
-// line after it, as `split` would give.
+// The first line of a text, without the newline that ends it, and what follows. Cut so, since `split` gives an empty line after
+// a newline at the end, and of what `split_inclusive` gives nothing is promised.
 #[tactic(auto, using(crate::proofs::Scan::found, crate::proofs::Scan::missing))]
 fn first_line(text: &[u8]) -> (&[u8], &[u8])
     ensures line { result.0.now ≡ before_first is_newline text.now }

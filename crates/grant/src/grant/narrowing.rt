@@ -33,7 +33,7 @@ impl<C: Cipher> SeedSource for Grant<C> {
 }
 
 impl<C> Grant<C> {
-    // The nodes that the span leaves of each row, where there is room for all.
+    // The nodes that the span leaves of each row, where there is room for all. An issue cuts one node by many spans, this many by one.
     fn cut_rows(&self, span: Span) -> Result<NodeList, Refusal>
         ensures { Lists result (left_rows span (nodes_of self.now)) }
     {

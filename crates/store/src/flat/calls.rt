@@ -1,7 +1,7 @@
 // What a flat store does.
-ghost use Rattle.std.specs.Prelude.{◌≡◌, ◌+◌, min, false, length, slice_set};
+ghost use Rattle.std.specs.Prelude.{◌≡◌, ◌+◌, false, length, slice_set};
 ghost use Rattle.store.specs.Contents.{empty};
-ghost use Rattle.store.specs.Flat.{flat};
+ghost use Rattle.store.specs.Flat.{flat, flat_places};
 
 use super::FlatStore;
 use crate::{MAX_CAPACITY, Store, check_span};
@@ -11,7 +11,7 @@ use refusal::Refusal;
 impl<'a, G: Group> FlatStore<'a, G> {
     // A store over these cells, none of which it touches. It has a place for each, up to 1048576.
     pub fn new(cells: &'a mut [G]) -> FlatStore<'a, G>
-        ensures begins { flat result ≡ empty (min (length cells.old) 1048576) }
+        ensures begins { flat result ≡ empty (flat_places (length cells.old)) }
         ensures touches { result.cells.now ≡ cells.old }
         ensures place { result.cells.ghost_name ≡ cells.entry.ghost_name }
     {

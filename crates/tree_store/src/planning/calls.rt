@@ -1,8 +1,9 @@
 // Making and reading a plan.
 ghost use Rattle.std.specs.Prelude.{◌≡◌, Ok};
 ghost use Rattle.refusal.specs.Judged.{first, refusal};
-ghost use Rattle.tree_store.specs.Levels.{Levelled, cells_needed, level_start};
+ghost use Rattle.tree_store.specs.Levels.{Levelled, cells_needed};
 ghost use Rattle.tree_store.specs.Plans.{plan_rules, figures};
+ghost use Rattle.tree_store.specs.Shapes.{cells_of};
 ghost use Rattle.tree_store.specs.declared.planning.Plan.{Plan};
 
 use super::Plan;
@@ -69,7 +70,7 @@ impl Plan {
     #[tactic(auto, using(crate::proofs::Shapes::plan_cells))]
     pub fn cells(&self) -> usize
         ensures is { result ≡ self.now.cells }
-        ensures all { result ≡ level_start self.now.shape.fan_out self.now.shape.capacity self.now.shape.levels }
+        ensures all { result ≡ cells_of self.now.shape }
     {
         self.cells
     }

@@ -2,7 +2,7 @@
 ghost use Rattle.std.specs.Prelude.{◌≡◌, ◌≤◌, true, false, length, is_ok};
 ghost use Rattle.refusal.specs.Judged.{judged, left_by};
 ghost use Rattle.store.specs.Contents.{empty, push, put_rules};
-ghost use Rattle.tree_store.specs.Cells.{Entered};
+ghost use Rattle.tree_store.specs.Shapes.{EnteredIn};
 ghost use Rattle.tree_store.specs.Plans.{places};
 ghost use Rattle.tree_store.specs.Trees.{tree, Summed, with_figure, begun};
 
@@ -76,7 +76,7 @@ impl<'a, G: Group> Store<G> for TreeStore<'a, G> {
         ensures writes { self.new.cells.now ≡ left_by result self.old.cells.now (with_figure G.Group.kind self.old figure) }
         ensures place { self.new.cells.ghost_name ≡ self.old.cells.ghost_name }
         ensures shape { self.new.shape ≡ self.old.shape }
-        ensures enters { is_ok result ≡ true → Entered G.Group.kind self.old.shape.fan_out self.old.shape.capacity self.old.shape.levels (length (tree self.old).entries) figure self.old.cells.now self.new.cells.now }
+        ensures enters { is_ok result ≡ true → EnteredIn G.Group.kind self.old.shape (length (tree self.old).entries) figure self.old.cells.now self.new.cells.now }
     {
         if self.used >= self.shape.capacity {
             return Err(Refusal::Full);

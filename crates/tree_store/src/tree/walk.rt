@@ -2,7 +2,7 @@
 ghost use Rattle.std.specs.Prelude.{◌≡◌, ◌+◌, ◌-◌, ◌<◌, ◌≤◌, length, take, drop};
 ghost use Rattle.group.specs.Kind.{sum};
 ghost use Rattle.store.specs.Contents.{between};
-ghost use Rattle.tree_store.specs.Cells.{raised};
+ghost use Rattle.tree_store.specs.Shapes.{raised_in};
 ghost use Rattle.tree_store.specs.Trees.{tree, Summed};
 
 use super::TreeStore;
@@ -13,7 +13,7 @@ impl<'a, G: Group> TreeStore<'a, G> {
     #[tactic(auto, using(crate::proofs::Shapes::places_room))]
     pub(crate) fn raise(&mut self, figure: G)
         requires { self.old.used < self.old.shape.capacity }
-        ensures writes { self.new.cells.now ≡ raised G.Group.kind self.old.shape.fan_out self.old.shape.capacity self.old.used figure self.old.cells.now (self.old.shape.levels - 1) }
+        ensures writes { self.new.cells.now ≡ raised_in G.Group.kind self.old.shape self.old.used figure self.old.cells.now (self.old.shape.levels - 1) }
         ensures place { self.new.cells.ghost_name ≡ self.old.cells.ghost_name }
         ensures shape { self.new.shape ≡ self.old.shape }
         ensures used { self.new.used ≡ self.old.used }
