@@ -7,5 +7,6 @@ pub returns : goal.returns
 unfolding sbox
 returns c =
     let x = c.args.x in
-    ap (λ (l : List ℕ). get_or l x 0) c.sbox_entries.ensures
+    ap (λ (i : ℕ). get_or c.sbox_entries.result.now i 0) c.from.ensures
+    ∙ ap (λ (l : List ℕ). get_or l x 0) c.sbox_entries.ensures
     ∙ get_or-map-range_with_len sbox_rule 0 256 x x 0 (omega arith) (omega arith)
