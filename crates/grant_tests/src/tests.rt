@@ -87,20 +87,21 @@ fn rows_of_spans(rt: HostRuntime) -> Result<(), Fail> {
     Ok(())
 }
 
-// Each refusal of an issue in a tree of height 3, and an issue that ends with the last key.
-fn issue_answers<C: Cipher>(tree: &KeyTree<C>, grant: &mut Grant<C>) -> [Result<(), Undone>; 7] {
+// Each refusal of an issue in a tree of height 3, a narrow over too little scratch, and an issue that ends with the last key.
+fn issue_answers<C: Cipher>(tree: &KeyTree<C>, grant: &mut Grant<C>) -> [Result<(), Undone>; 8] {
     let empty = Span { from: 9, to: 9 };
     let below = Span { from: 1, to: 3 };
     let past = Span { from: 3, to: 9 };
     let touching = Span { from: 3, to: 8 };
     let short = issued_over(tree, &[], &mut [7; 65], grant);
+    let narrow = narrowed_over(grant, 9, 9, &mut [7; 65]);
     let none = issued(tree, &[], grant);
     let many = issued(tree, &[empty; 17], grant);
     let nothing = issued(tree, &[empty], grant);
     let beyond = issued(tree, &[below, past], grant);
     let close = issued(tree, &[below, touching], grant);
     let passes = issued(tree, &[touching], grant);
-    [short, none, many, nothing, beyond, close, passes]
+    [short, narrow, none, many, nothing, beyond, close, passes]
 }
 
 #[test]
@@ -110,6 +111,7 @@ fn issue_refuses_in_order(rt: HostRuntime) -> Result<(), Fail> {
     assert!(rt;
         issue_answers(&tree, &mut grant)
             == [
+                Err(Refused(19)),
                 Err(Refused(19)),
                 Err(Refused(5)),
                 Err(Refused(6)),
@@ -123,14 +125,15 @@ fn issue_refuses_in_order(rt: HostRuntime) -> Result<(), Fail> {
     Ok(())
 }
 
-// Each refusal of a narrow of keys 1 to 6.
-fn narrow_answers<C: Cipher>(tree: &KeyTree<C>, grant: &mut Grant<C>) -> [Result<(), Undone>; 5] {
+// Each refusal of a narrow of keys 1 to 6, and an issue over too little scratch.
+fn narrow_answers<C: Cipher>(tree: &KeyTree<C>, grant: &mut Grant<C>) -> [Result<(), Undone>; 6] {
     let filled = issued(tree, &[Span { from: 1, to: 7 }], grant);
+    let issue = issued_over(tree, &[], &mut [7; 65], grant);
     let short = narrowed_over(grant, 9, 9, &mut [7; 65]);
     let nothing = narrowed(grant, 9, 9);
     let beyond = narrowed(grant, 7, 9);
     let none_left = narrowed(grant, 7, 8);
-    [filled, short, nothing, beyond, none_left]
+    [filled, issue, short, nothing, beyond, none_left]
 }
 
 #[test]
@@ -141,6 +144,7 @@ fn narrow_refuses_in_order(rt: HostRuntime) -> Result<(), Fail> {
         narrow_answers(&tree, &mut grant)
             == [
                 Ok(()),
+                Err(Refused(19)),
                 Err(Refused(19)),
                 Err(Refused(2)),
                 Err(Refused(3)),

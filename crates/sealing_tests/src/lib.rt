@@ -4,7 +4,7 @@
 #[cfg(test)]
 mod tests {
     use clients::two_listed;
-    use group::{Count, Flags, Moments};
+    use group::{Count, Flags, Group, Moments};
     use refusal::Refusal;
     use sealing::{Running, is_double, open};
     use source::{KeyList, KeyPair};
@@ -33,18 +33,9 @@ mod tests {
                 Err(34)
             );
             let epoch = epoch.close();
-            assert_eq!(rt;
-                open(&store, epoch.keys(), 0, 3).map_err(Refusal::number),
-                Ok(Count::from(7))
-            );
-            assert_eq!(rt;
-                open(&store, epoch.keys(), 1, 3).map_err(Refusal::number),
-                Ok(Count::from(2))
-            );
-            assert_eq!(rt;
-                open(&store, epoch.keys(), 2, 2).map_err(Refusal::number),
-                Ok(Count::from(0))
-            );
+            assert_eq!(rt; open(&store, epoch.keys(), 0, 3)?.value, 7);
+            assert_eq!(rt; open(&store, epoch.keys(), 1, 3)?.value, 2);
+            assert_eq!(rt; open(&store, epoch.keys(), 2, 2)?.value, 0);
         }
         assert_eq!(rt; cells[0].value, 12);
         assert_eq!(rt; cells[1].value, less(19).value);
@@ -74,10 +65,7 @@ mod tests {
             to: 2,
             after: Count::from(20),
         };
-        assert_eq!(rt;
-            open(&store, &ends, 0, 2).map_err(Refusal::number),
-            Ok(Count::from(3))
-        );
+        assert_eq!(rt; open(&store, &ends, 0, 2)?.value, 3);
         assert_eq!(rt; open(&store, &ends, 3, 1).map_err(Refusal::number), Err(1));
         assert_eq!(rt; open(&store, &ends, 1, 3).map_err(Refusal::number), Err(32));
         assert_eq!(rt; open(&store, &ends, 1, 2).map_err(Refusal::number), Err(33));
@@ -141,25 +129,17 @@ mod tests {
     }
 
     #[test]
-    fn two_lines(rt: HostRuntime) {
+    fn two_lines(rt: HostRuntime) -> Result<(), Fail> {
         let keys = [10, 3, 20].map(Count::from);
+        let [five, six] = [5, 6].map(Count::from);
         let mut cells = [Count::from(0); 2];
-        assert_eq!(rt;
-            two_listed(&keys, &mut cells, Count::from(5), less(6)).map_err(Refusal::number),
-            Ok(less(1))
-        );
-        assert_eq!(rt;
-            two_listed(&keys, &mut cells[0..1], Count::from(5), Count::from(6)).map_err(
-                Refusal::number
-            ),
-            Err(31)
-        );
-        assert_eq!(rt;
-            two_listed(&keys[0..2], &mut cells, Count::from(5), Count::from(6)).map_err(
-                Refusal::number
-            ),
-            Err(34)
-        );
+        let sum = two_listed(&keys, &mut cells, five, less(6))?;
+        assert_eq!(rt; sum.value, less(1).value);
+        let full = two_listed(&keys, &mut cells[0..1], five, six);
+        assert_eq!(rt; full.map_err(Refusal::number), Err(31));
+        let keyless = two_listed(&keys[0..2], &mut cells, five, six);
+        assert_eq!(rt; keyless.map_err(Refusal::number), Err(34));
+        Ok(())
     }
 
     #[test]

@@ -56,10 +56,7 @@ mod tests {
             for a in 0..11 {
                 for b in a..11 {
                     let sum = triangle(b as u64).wrapping_sub(triangle(a as u64));
-                    assert_eq!(rt;
-                        store.total(a, b).map_err(Refusal::number),
-                        Ok(Count::from(sum))
-                    );
+                    assert_eq!(rt; store.total(a, b)?.value, sum);
                 }
             }
             assert_eq!(rt; store.total(3, 2).map_err(Refusal::number), Err(1));
@@ -82,10 +79,7 @@ mod tests {
             let mut store = TreeStore::new(plan, &mut cells);
             assert_eq!(rt; store.capacity(), 0);
             assert_eq!(rt; store.put(Count::from(1)).map_err(Refusal::number), Err(31));
-            assert_eq!(rt;
-                store.total(0, 0).map_err(Refusal::number),
-                Ok(Count::from(0))
-            );
+            assert_eq!(rt; store.total(0, 0)?.value, 0);
         }
         assert_eq!(rt; cells[0].value, 7);
         assert_eq!(rt; cells[12].value, 7);
@@ -100,41 +94,15 @@ mod tests {
     fn kinds(rt: HostRuntime) -> Result<(), Fail> {
         let plan = Plan::new(2, 2, 3)?;
         let keys = [10, 3, 20].map(Count::from);
+        let [zero, five, six] = [0, 5, 6].map(Count::from);
         let source = KeyList { keys: &keys };
-        assert_eq!(rt;
-            two_tree(
-                plan,
-                source,
-                &mut [Count::from(0); 3],
-                Count::from(5),
-                Count::from(6)
-            )
-            .map_err(Refusal::number),
-            Ok(Count::from(11))
-        );
-        assert_eq!(rt;
-            two_tree(
-                plan,
-                source,
-                &mut [Count::from(0); 2],
-                Count::from(5),
-                Count::from(6)
-            )
-            .map_err(Refusal::number),
-            Err(31)
-        );
+        let sum = two_tree(plan, source, &mut [zero; 3], five, six)?;
+        assert_eq!(rt; sum.value, 11);
+        let full = two_tree(plan, source, &mut [zero; 2], five, six);
+        assert_eq!(rt; full.map_err(Refusal::number), Err(31));
         let source = KeyList { keys: &keys[0..2] };
-        assert_eq!(rt;
-            two_tree(
-                plan,
-                source,
-                &mut [Count::from(0); 3],
-                Count::from(5),
-                Count::from(6)
-            )
-            .map_err(Refusal::number),
-            Err(34)
-        );
+        let keyless = two_tree(plan, source, &mut [zero; 3], five, six);
+        assert_eq!(rt; keyless.map_err(Refusal::number), Err(34));
         let keys = [Flags { bits: 12 }, Flags { bits: 10 }, Flags { bits: 6 }];
         let (x, y) = (Flags { bits: 1 }, Flags { bits: 3 });
         let flags = two_tree(plan, KeyList { keys: &keys }, &mut [x; 3], x, y)?;
