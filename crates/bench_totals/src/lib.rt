@@ -43,7 +43,7 @@ fn rounds_of<S: Store<Count>>(store: &S, rounds: usize) -> u64
     all
 }
 
-// On a flat store over the cells.
+// On a flat store over the cells. There is a call for each store, since C names no type.
 #[unsafe(no_mangle)]
 pub extern "C" fn totals_flat(cells: &mut [Count], figures: &[Count], rounds: usize) -> u64
     ensures { result ≡ rounds_sum (take (flat_places (length cells.old)) figures.now) rounds }

@@ -69,7 +69,8 @@ impl BitXor for Words {
 }
 
 impl Words {
-    // The columns of a round, each `f` of the four columns that hold its bytes.
+    // The columns of a round, each `f` of the four columns that hold its bytes. With rows moved first, and `f` of one column, a block
+    // took half as long again.
     fn each_column<F: Fn(u32, u32, u32, u32) -> u32>(self, f: F) -> Words
         requires { F.IsAlwaysCallable f }
         ensures c0 { F.post f self.c0 self.c1 self.c2 self.c3 result.c0 }

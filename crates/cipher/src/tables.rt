@@ -59,6 +59,7 @@ static SPREAD: [u32; 256] = [
     0x824141c3, 0x299999b0, 0x5a2d2d77, 0x1e0f0f11, 0x7bb0b0cb, 0xa85454fc, 0x6dbbbbd6, 0x2c16163a,
 ];
 
+// Each table is lent by a function, since a clause cannot name a static.
 fn sbox_entries() -> &'static [u8; 256]
     ensures { result.now ≡ sbox_table }
 {

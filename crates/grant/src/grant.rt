@@ -18,7 +18,7 @@ mod seeding;
 mod row {
     use super::Block;
 
-    // A node of a tree with its seed. The node's two numbers stand beside the seed, as they do in a row's text.
+    // A node of a tree with its seed. The node's numbers are the row's own fields, which every reader of a row names.
     #[derive(Clone, Copy, PartialEq, Eq)]
     pub struct Row {
         pub level: u32,
@@ -27,7 +27,7 @@ mod row {
     }
 
     impl Row {
-        // Row (0, 0) with seed zero, which stands where no row is. A constant, since an array repeats it.
+        // Row (0, 0) with seed zero, which stands where no row is. The name says so, where a derived default would say zeros.
         pub(crate) const BLANK: Row = Row {
             level: 0,
             index: 0,

@@ -26,6 +26,7 @@ fn sizes_in_form(text: &[u8]) -> Option<Sizes>
 {
     let rest = after_letters(text)?;
     let (height, count) = read_sizes(rest)?;
+    // Not by `Height::new`, which would call it a wrong height; here it is a wrong heading.
     if !(1..=32).contains(&height) || !(1..=128).contains(&count) {
         return None;
     }

@@ -31,7 +31,8 @@ pub trait Group: Copy {
     // The figure that the words of a key make.
     ghost made: { List ℕ → Self };
 
-    // The figure of as many words as a key takes; the others are ignored, so this is no `From`.
+    // The figure of as many words as a key takes; the others are ignored, so this is no `From`. There are always three, since no
+    // array may be as long as a trait's constant says.
     fn from_words(words: [u64; 3]) -> Self
         ensures { result ≡ made (take KEY_WORDS words) };
 
@@ -46,7 +47,7 @@ pub trait Group: Copy {
     fn negate(self) -> Self
         ensures { result ≡ kind.minus self };
 
-    // Whether the two count as the same.
+    // Whether the two count as the same. Each kind says how: a kind may have several figures for one value, so `==` is not enough.
     fn same(self, other: Self) -> bool
         ensures only { result ≡ true → kind.value self ≡ kind.value other }
         ensures whenever { kind.value self ≡ kind.value other → result ≡ true };

@@ -11,7 +11,8 @@ use crate::Group;
 use refusal::Refusal;
 use std::fmt;
 
-// How many, their sum and the sum of their squares, each modulo 2^64.
+// How many, their sum and the sum of their squares, each modulo 2^64. They are numbers, and no counts of the kind `Count`, for
+// whoever reads the fields.
 #[derive(Clone, Copy, Debug, PartialEq, Eq)]
 pub struct Moments {
     pub count: u64,

@@ -22,6 +22,7 @@ impl<'a, G: Group, S: Store<G>, K: KeySource<G>> KeySource<G> for Coarse<'a, S, 
             return None;
         }
         let j = number / self.step;
+        // A `usize` has 64 bits, so the cast needs no other way out.
         let envelope = self.envelopes.get(j as usize)?;
         let hiding = self.other.key(j)?;
         Some(envelope.add(hiding.negate()))

@@ -18,7 +18,8 @@ fn hide<G: Group>(hidden: G, hiding: G) -> G
     hidden.add(hiding)
 }
 
-// Puts the next envelope: fine key j · step under the other source's key j, j being the count. Answers j.
+// Puts the next envelope: fine key j · step under the other source's key j, j being the count. Answers j. The steps are those of an
+// append, but the keys come from two sources; and the envelopes are written here and only borrowed by a coarse source.
 pub fn post<G: Group, S: Store<G>, F: KeySource<G>, O: KeySource<G>>(
     step: u64,
     envelopes: &mut S,

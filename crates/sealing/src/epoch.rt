@@ -9,7 +9,7 @@ use refusal::Refusal;
 use source::KeySource;
 use store::Store;
 
-// The ciphertext of a line between two keys.
+// The ciphertext of a line between two keys, made in one place, so that a wrong sign fails as a fact here.
 fn sealed<G: Group>(line: G, before: G, after: G) -> G
     ensures { result ≡ G.Group.kind.plus (G.Group.kind.plus line before) (G.Group.kind.minus after) }
 {

@@ -10,7 +10,7 @@ use group::Group;
 use store::Store;
 use tree_store::{Plan, TreeStore};
 
-// Puts two figures into a new tree.
+// Puts two figures into a new tree. Plan and cells come apart from the caller, so each call here says what too few cells keep.
 pub fn two_puts<G: Group>(plan: Plan, cells: &mut [G], x: G, y: G)
     ensures both { plan.cells ≤ length cells.old → 2 ≤ plan.shape.capacity → (between : List G) × EnteredIn G.Group.kind plan.shape 0 x (cleared G.Group.kind.zero plan.cells cells.old) between × EnteredIn G.Group.kind plan.shape 1 y between cells.new }
     ensures one { plan.cells ≤ length cells.old → plan.shape.capacity ≡ 1 → EnteredIn G.Group.kind plan.shape 0 x (cleared G.Group.kind.zero plan.cells cells.old) cells.new }

@@ -28,7 +28,7 @@ fn is_comment(line: &[u8]) -> bool
     line.starts_with(b"#")
 }
 
-// Whether the blanks between the three blocks are there.
+// Whether the blanks between the three blocks are there. The places in a line are numbers, as the file's form gives them.
 fn has_blanks(line: &[u8]) -> bool
     requires { length line.now ≡ 98 }
     ensures { result ≡ has_blanks line.now }

@@ -62,6 +62,7 @@ fn issue_with<C: Cipher>(
 ) -> Result<(), Refusal>
     ensures { Issues C.encrypted tree.now.height.levels tree.now.root spans.now (length scratch.old) grant.old result grant.new }
 {
+    // By `let .. else`, whose way on tells the proofs how many words there are.
     let Some(path) = scratch.first_chunk_mut::<66>() else {
         return Err(Refusal::ShortScratch);
     };

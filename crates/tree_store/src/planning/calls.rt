@@ -24,6 +24,7 @@ impl Plan {
         if capacity < 1 || capacity > MAX_CAPACITY {
             return Err(Refusal::Capacity);
         }
+        // As many turns as the tree has levels, which are counted here.
         let mut top = 0;
         let mut width = capacity;
         let mut needed = capacity;

@@ -25,6 +25,7 @@ impl<'a, G: Group> TreeStore<'a, G> {
         let mut start = 0;
         let mut width = shape.capacity;
         let mut at = number;
+        // The loop's number is read by the proof alone.
         for below in 0..shape.levels - 1 {
             start += width;
             width = shape.above(width);
