@@ -12,7 +12,7 @@ use sealing::{Running, open};
 use source::{KeyList, KeySource};
 use store::{FlatStore, Store};
 
-// In any new store, with the keys of any source.
+// In any new store, with the keys of any source. A caller has keys, cells and lines apart, so they are arguments apart.
 pub fn two_in<G: Group, S: Store<G>, K: KeySource<G> + Drop>(
     source: K,
     store: &mut S,

@@ -9,7 +9,8 @@ use std::fmt::Display;
 use store::{FlatStore, Store};
 use tree_store::{Plan, TreeStore};
 
-// Seals the lines under the keys, and opens the whole, a part and nothing; the reader has the two keys at the ends.
+// Seals the lines under the keys, and opens the whole, a part and nothing; the reader has the two keys at the ends. Keys and
+// lines are arguments apart, since readers have keys alone.
 fn play<G: Group + Display, S: Store<G>>(
     rt: &HostRuntime,
     store: &mut S,

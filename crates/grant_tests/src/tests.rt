@@ -60,7 +60,7 @@ fn narrowed<C: Cipher>(grant: &mut Grant<C>, from: u64, to: u64) -> Result<(), U
     narrowed_over(grant, from, to, &mut [7; 66])
 }
 
-// Whether the rows of the grant are these nodes, each by its level and index.
+// Whether the rows of the grant are these nodes, each by its level and index, as the cases write them.
 fn has_rows<C>(grant: &Grant<C>, nodes: &[(u32, u64)]) -> bool {
     let rows = grant.rows().iter().map(|row| (row.level, row.index));
     rows.eq(nodes.iter().copied())
@@ -87,7 +87,8 @@ fn rows_of_spans(rt: HostRuntime) -> Result<(), Fail> {
     Ok(())
 }
 
-// Each refusal of an issue in a tree of height 3, a narrow over too little scratch, and an issue that ends with the last key.
+// In the order of the calls: each refusal of an issue in a tree of height 3, a narrow over too little scratch, and an issue that
+// ends with the last key.
 fn issue_answers<C: Cipher>(tree: &KeyTree<C>, grant: &mut Grant<C>) -> [Result<(), Undone>; 8] {
     let empty = Span { from: 9, to: 9 };
     let below = Span { from: 1, to: 3 };

@@ -27,7 +27,7 @@ fn read_line(s: &[u8]) -> Option<Row>
     })
 }
 
-// Row `i` of a text, where its line is in form.
+// Row `i` of a text, where its line is in form: 12 bytes of heading, and 57 for each row.
 pub(crate) fn row_at(text: &[u8], i: usize) -> Option<Row>
     requires { 69 + 57 * i ≤ length text.now }
     ensures { MatchOption result ((x : ARow) → Shows text.now i x → ⊥) (λ x. Shows text.now i x) }
@@ -36,6 +36,7 @@ pub(crate) fn row_at(text: &[u8], i: usize) -> Option<Row>
     read_line(&lines[..57])
 }
 
+// The bounds are those of what fits a column.
 pub(crate) fn write_line(out: &mut [u8], row: Row)
     requires long { length out.old ≡ 57 }
     requires level { row.level < 10 ^ 3 }

@@ -62,7 +62,7 @@ mod tests {
         );
     }
 
-    // Of weeks of four days, and without days.
+    // Of weeks of four days, and without days. Each test here shows its days and envelopes whole.
     #[test]
     fn coarse_has_multiples(rt: HostRuntime) {
         let days = [10, 3, 20, 7, 50].map(Count::from);

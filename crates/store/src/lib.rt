@@ -18,6 +18,7 @@ pub const MAX_CAPACITY: usize = 1048576;
 
 // A list of figures that grows at its end, up to a capacity that never changes.
 pub trait Store<G: Group> {
+    // What it holds. Laws take the members of a store one by one, since a clause cannot speak of a trait.
     ghost contents: { Self → Contents G };
 
     // The sums that the store keeps besides its figures are right. Every new store is sound. It is a member, and no fact of a

@@ -15,7 +15,7 @@ fn digit(b: u8) -> Option<u8>
     }
 }
 
-// The number that the digits write, modulo 2^64.
+// The number that the digits write, modulo 2^64. The library's reader wants text, and takes a sign and capitals.
 #[tactic(auto, using(crate::proofs::Digits::one_digit))]
 fn read_word(text: &[u8]) -> Option<u64>
     ensures { result ≡ number_from (Some 0) text.now }
@@ -36,6 +36,7 @@ pub fn read_block(text: &[u8]) -> Option<Block>
     if text.len() != 32 {
         return None;
     }
+    // Two halves of sixteen digits.
     Some(Block {
         high: read_word(&text[..16])?,
         low: read_word(&text[16..])?,

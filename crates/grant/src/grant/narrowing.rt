@@ -27,6 +27,7 @@ impl<C: Cipher> SeedSource for Grant<C> {
     ghost seed = { λ g n. seed_from C.encrypted (row_over (rows_of g) (first_key n)) n };
 
     fn seed(&self, node: Node, path: &mut Path) -> Block {
+        // In `cover` the same is asked of nodes that lie in a tree, and so is not public.
         let first_key = node.index << node.level;
         let row = self.row_over(first_key).unwrap();
         descend::<C>(row.seed, row.level - node.level, node.index, path)

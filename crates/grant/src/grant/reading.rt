@@ -53,7 +53,8 @@ impl<C> Grant<C> {
     }
 }
 
-// It has the keys under its rows: a cipher call for each level below the row, and one for each word.
+// It has the keys under its rows: a cipher call for each level below the row, and one for each word. Laws take the members of the cipher
+// and of the kind one by one, since a clause cannot speak of a trait.
 impl<G: Group, C: Cipher> KeySource<G> for Grant<C> {
     ghost keys = { grant_keys C.Cipher.encrypted G.Group.KEY_WORDS G.Group.made };
 

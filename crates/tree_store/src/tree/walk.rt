@@ -59,6 +59,7 @@ impl<'a, G: Group> TreeStore<'a, G> {
         let mut width = shape.capacity;
         let mut from = a;
         let mut to = b;
+        // Here too the loop's number is read by the proof alone.
         for level in 0..shape.levels - 1 {
             let first = shape.above(from);
             let last = if whole {
