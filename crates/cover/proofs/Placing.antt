@@ -1,10 +1,10 @@
 -- Whether a node lies in a tree of the greatest height, and what its cutting answers. Assumes nothing.
-use Rattle.std.proofs.Common.{◌≡◌, ℕ, ◌^◌, ◌<◌, ◌≤◌, true, false, Ok, Err, Result, ⊎_elim, arith}
+use Rattle.std.proofs.Common.{◌≡◌, ℕ, ◌^◌, ◌<◌, ◌≤◌, true, false, Ok, Err, ⊎_elim, arith}
 use Rattle.std.proofs.lemmas.Bool.{cases_Bool, both_ways}
 use Rattle.std.proofs.lemmas.Bool.Decides.{nat_tests}
 use Rattle.refusal.specs.declared.Refusal.{Refusal}
 use Rattle.refusal.specs.declared.Refusal.TheVariants.{RowPlace, TooManyRows}
-use Rattle.refusal.specs.Judged.{Rules, judged}
+use Rattle.refusal.specs.Judged.{judged}
 use Rattle.cover.specs.declared.node.Node.{Node}
 use Rattle.cover.specs.Tree.{past}
 use Rattle.cover.specs.Cut.{placed, cut_rules}
@@ -24,19 +24,16 @@ placed_nowhere n e = ⊎_elim (λ (h : placed n ≡ true). absurd (both_ways (in
     parts h = grind (arith, nat_tests)
 
 -- the answers
-abbrev answer : Rules → Result (Unit {0}) Refusal
-answer rules = judged rules tt
-
 module _ (n : Node) (rows : ℕ) where
-  pub out_of_place : placed n ≡ false → Err RowPlace ≡ answer (cut_rules n rows)
+  pub out_of_place : placed n ≡ false → Err RowPlace ≡ judged (cut_rules n rows) (tt {0})
   out_of_place e = grind (arith, nat_tests)
 
-  pub no_room : placed n ≡ true → 128 < rows → Err TooManyRows ≡ answer (cut_rules n rows)
+  pub no_room : placed n ≡ true → 128 < rows → Err TooManyRows ≡ judged (cut_rules n rows) (tt {0})
   no_room e l = grind (arith, nat_tests)
 
-  pub room : placed n ≡ true → rows ≤ 128 → Ok tt ≡ answer (cut_rules n rows)
+  pub room : placed n ≡ true → rows ≤ 128 → Ok tt ≡ judged (cut_rules n rows) (tt {0})
   room e l = grind (arith, nat_tests)
 
   -- a node in place is refused for want of room alone
-  pub full : (why : Refusal) → placed n ≡ true → Err why ≡ answer (cut_rules n rows) → (why ≡ TooManyRows) × (128 < rows)
+  pub full : (why : Refusal) → placed n ≡ true → Err why ≡ judged (cut_rules n rows) (tt {0}) → (why ≡ TooManyRows) × (128 < rows)
   full why e r = grind (arith, nat_tests)

@@ -1,5 +1,5 @@
 -- The steps of the cutting, over what the code knows. Assumes nothing.
-use Rattle.std.proofs.Common.{◌≡◌, ℕ, ◌+◌, ◌-◌, ◌*◌, ◌<◌, ◌≤◌, ◌⊎◌, List, [], ◌∷◌, ◌++◌, length, Err, Result, MatchResult, sym, ap, ◌∙◌, subst, ⊎_elim, append_assoc, append-nil, arith, length-append}
+use Rattle.std.proofs.Common.{◌≡◌, ℕ, ◌+◌, ◌-◌, ◌*◌, ◌<◌, ◌≤◌, ◌⊎◌, List, [], ◌∷◌, ◌++◌, length, Err, Result, MatchResult, sym, ap, ◌∙◌, subst, append_assoc, append-nil, arith, length-append}
 use Rattle.std.specs.Result.{IsErrAnd}
 use Rattle.std.proofs.lemmas.Result.{err_from_is_err_and}
 use Rattle.refusal.specs.declared.Refusal.{Refusal}
@@ -7,7 +7,7 @@ use Rattle.refusal.specs.declared.Refusal.TheVariants.{TooManyRows}
 use Rattle.cover.specs.declared.node.Node.{Node}
 use Rattle.cover.specs.Tree.{first_key, past}
 use Rattle.cover.specs.Cut.{node, cut, Adds}
-use Rattle.cover.proofs.Cuts.{cut_apart, cut-whole, cut-partly, Halved}
+use Rattle.cover.proofs.Cuts.{cut_apart, cut-whole, Halved}
 
 abbrev pub Answer : Type 0
 Answer = Result (Unit {0}) Refusal
@@ -21,10 +21,6 @@ step-apart from to level index before o = sym (append-nil before) ∙ ap (λ (x 
 
 pub step-whole : (r : Answer) (from to level index : ℕ) (before after : List Node) → from ≤ first_key (node level index) → past (node level index) ≤ to → Adds r before (node level index ∷ []) after → Adds r before (cut from to level index) after
 step-whole r from to level index before after f p h = subst (λ (x : List Node). Adds r before x after) (sym (cut-whole from to level index f p)) h
-
-pub halved-at : (from to level index first' past' : ℕ) → first' ≡ first_key (node level index) → past' ≡ past (node level index) → first' < to → from < past' → ((from ≤ first') × (to < past')) ⊎ (first' < from) → Halved from to level index
-halved-at from to level index first' past' e f a b o =
-    cut-partly from to level index (omega arith) (omega arith) (λ p q. ⊎_elim (λ (h : (from ≤ first') × (to < past')). omega (arith, h.1)) (λ (h : first' < from). omega arith) o)
 
 pub step_left : (from to level index : ℕ) (before : List Node) → Halved from to level index → 128 < length (before ++ cut from to (level - 1) (2 * index)) → 128 < length (before ++ cut from to level index)
 step_left from to level index before h l =
