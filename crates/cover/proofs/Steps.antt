@@ -13,8 +13,8 @@ abbrev pub Answer : Type 0
 Answer = Result (Unit {0}) Refusal
 
 -- a refusal that `?` passes on is the callee's
-pub passed_on : {R : Type 0} (P : Result R Refusal → Type 0) (why : Refusal) {r : Result R Refusal} → IsErrAnd r (λ (e : Refusal). e ≡ why) → P (Err why) → P r
-passed_on P why {r} h p = let q = err_from_is_err_and r h in subst P (sym (q.1 ∙ ap Err q.2)) p
+pub passed_on : {R : Type 0} {why : Refusal} {r : Result R Refusal} → IsErrAnd r (λ (e : Refusal). e ≡ why) → r ≡ Err why
+passed_on {r = r} h = let q = err_from_is_err_and r h in q.1 ∙ ap Err q.2
 
 pub step-apart : (from to level index : ℕ) (before : List Node) → (to ≤ first_key (node level index)) ⊎ (past (node level index) ≤ from) → before ≡ before ++ cut from to level index
 step-apart from to level index before o = sym (append-nil before) ∙ ap (λ (x : List Node). before ++ x) (sym (cut_apart from to level index o))

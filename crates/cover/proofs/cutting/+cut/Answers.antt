@@ -1,8 +1,7 @@
 use Rattle.std.proofs.Common.{inl, inr, ⊎_elim, arith}
-use Rattle.cover.specs.Cut.{cut, Adds}
 use Rattle.cover.specs.Listed.{listed}
 use Rattle.cover.proofs.Cuts.{cut-partly}
-use Rattle.cover.proofs.Steps.{Answer, passed_on, step-apart, step-whole, step_left, step_right}
+use Rattle.cover.proofs.Steps.{passed_on, step-apart, step-whole, step_left, step_right}
 use Rattle.cover.proofs.cutting.+cut.Goals as goal
 
 pub returns-then-span-first-clause-added : goal.returns-then-span-first-clause-added
@@ -24,7 +23,7 @@ returns-in_err-cut-clause-added t c =
     let before = listed c.args.rows.now in
     let h = cut-partly s.from s.to c.args.level c.args.index (omega arith) (omega arith) (λ p q. omega (arith, c.else-span-first-2.either)) in
     let w = c.in_err-cut.ensures.added in
-    passed_on (λ (r : Answer). Adds r before (cut s.from s.to c.args.level c.args.index) (listed c.cut.new.rows)) _ c.from_residual.ensures.1 (w.0, step_left s.from s.to c.args.level c.args.index before h w.1)
+    rw (passed_on c.from_residual.ensures.1) (w.0, step_left s.from s.to c.args.level c.args.index before h w.1)
 
 pub cut-requires-2 : goal.cut-requires-2
 cut-requires-2 t c =
