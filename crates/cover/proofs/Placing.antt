@@ -1,13 +1,14 @@
 -- Whether a node lies in a tree of the greatest height, and what its cutting answers. Assumes nothing.
-use Rattle.std.proofs.Common.{◌≡◌, ℕ, ◌^◌, ◌<◌, ◌≤◌, true, false, Ok, Err, ⊎_elim, arith}
+use Rattle.std.proofs.Common.{◌≡◌, ℕ, ◌^◌, ◌<◌, ◌≤◌, true, false, List, ◌++◌, length, Ok, Err, ap, subst, ⊎_elim, arith, length-append}
 use Rattle.std.proofs.lemmas.Bool.{cases_Bool, both_ways}
 use Rattle.std.proofs.lemmas.Bool.Decides.{nat_tests}
 use Rattle.refusal.specs.declared.Refusal.{Refusal}
 use Rattle.refusal.specs.declared.Refusal.TheVariants.{RowPlace, TooManyRows}
 use Rattle.refusal.specs.Judged.{judged}
 use Rattle.cover.specs.declared.node.Node.{Node}
+use Rattle.cover.specs.declared.node.Span.{Span}
 use Rattle.cover.specs.Tree.{past}
-use Rattle.cover.specs.Cut.{placed, cut_rules}
+use Rattle.cover.specs.Cut.{cut, placed, cut_rules}
 use Rattle.cover.specs.Next.{in_tree}
 use Rattle.cover.proofs.Passing.{tree-low, tree-past, past-tree}
 
@@ -35,5 +36,13 @@ module _ (n : Node) (rows : ℕ) where
   room e l = grind (arith, nat_tests)
 
   -- a node in place is refused for want of room alone
-  pub full : (why : Refusal) → placed n ≡ true → Err why ≡ judged (cut_rules n rows) (tt {0}) → (why ≡ TooManyRows) × (128 < rows)
+  full : (why : Refusal) → placed n ≡ true → Err why ≡ judged (cut_rules n rows) (tt {0}) → (why ≡ TooManyRows) × (128 < rows)
   full why e r = grind (arith, nat_tests)
+
+-- and a list with too many nodes is not mended by what comes after
+pub too_many : (s : Span) {m n : Node} (before rest all : List Node) {why : Refusal} → m ≡ n → n.level ≤ 32 → past n ≤ 2 ^ 32 → before ++ (cut s.from s.to n.level n.index ++ rest) ≡ all
+    → Err why ≡ judged (cut_rules m (length (before ++ cut s.from s.to m.level m.index))) (tt {0}) → (why ≡ TooManyRows) × (128 < length all)
+too_many s {m} {n} before rest all {why} is low inside e answers =
+    let here = cut s.from s.to n.level n.index in
+    let w = full n (length (before ++ here)) why (placed_in n low inside) (subst (λ (x : Node). Err why ≡ judged (cut_rules x (length (before ++ cut s.from s.to x.level x.index))) (tt {0})) is answers) in
+    (w.0, omega (arith, w.1, ap length e, length-append before (here ++ rest), length-append here rest, length-append before here))

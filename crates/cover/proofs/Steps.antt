@@ -34,7 +34,3 @@ step_right r from to level index before mid after h m w =
     let right = cut from to (level - 1) (2 * index + 1) in
     let e : mid ++ right ≡ before ++ cut from to level index = ap (λ (x : List Node). x ++ right) m ∙ append_assoc before left right ∙ ap (λ (x : List Node). before ++ x) (sym h.parts) in
     subst (λ (x : List Node). MatchResult r (λ _. after ≡ x) (λ why. (why ≡ TooManyRows) × (128 < length x))) e w
-
--- a list with too many nodes is not mended by what comes after
-pub more_than : (before here rest all : List Node) → before ++ (here ++ rest) ≡ all → 128 < length (before ++ here) → 128 < length all
-more_than before here rest all e l = omega (arith, ap length e, length-append before (here ++ rest), length-append here rest, length-append before here)
