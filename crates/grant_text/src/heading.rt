@@ -58,6 +58,7 @@ fn read_sizes(rest: &[u8]) -> Option<(u64, u64)>
     }
 }
 
+#[tactic(auto, using(crate::proofs::Widths::fitting))]
 pub(crate) fn write_heading(out: &mut [u8], sizes: Sizes)
     requires long { length out.old ≡ 12 }
     requires low { sizes.height < 10 ^ 3 }

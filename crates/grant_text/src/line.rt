@@ -36,6 +36,7 @@ pub(crate) fn row_at(text: &[u8], i: usize) -> Option<Row>
     read_line(&lines[..57])
 }
 
+#[tactic(auto, using(crate::proofs::Widths::fitting))]
 pub(crate) fn write_line(out: &mut [u8], row: Row)
     requires long { length out.old ≡ 57 }
     requires level { row.level < 10 ^ 3 }
