@@ -7,7 +7,7 @@ use Rattle.std.proofs.lemmas.Bool.Decides.{nat_tests}
 use Rattle.cover.specs.declared.node.Node.{Node}
 use Rattle.cover.specs.Tree.{first_key, past, parent, Rising}
 use Rattle.cover.specs.Cut.{node, outside, within, cut}
-use Rattle.cover.proofs.Geometry.{climb, climb-parent, climb-first, climb-past, first_past, halves, parent-left, parent-right, first_left, past-right}
+use Rattle.cover.proofs.Geometry.{climb, climb-parent, climb-level, climb-first, climb-past, first_past, halves, parent-left, parent-right, first_left, past-right}
 
 apart_from : (from to : ℕ) (n : Node) → outside from to n ≡ true → (to ≤ first_key n) ⊎ (past n ≤ from)
 apart_from from to n e = grind (arith, nat_tests)
@@ -52,6 +52,14 @@ pub record CutRow (from to level index : ℕ) (n : Node) : Type 0 where
   pub high : past n ≤ to
   pub top : 0 < up → from ≤ first_key (parent n) → past (parent n) ≤ to → ⊥
 
+pub row_under : {from to level index : ℕ} {n : Node} → CutRow from to level index n → (n.level ≤ level) × (first_key (node level index) ≤ first_key n) × (past n ≤ past (node level index))
+row_under {n = n} r =
+    let up = r.up in (
+      omega (arith, climb-level up n, ap (λ (k : Node). k.level) r.under),
+      subst (λ (k : Node). first_key k ≤ first_key n) r.under (climb-first up n),
+      subst (λ (k : Node). past n ≤ past k) r.under (climb-past up n),
+    )
+
 up_one : (from to l index half : ℕ) (n : Node) → parent (node l half) ≡ node (suc l) index → (from ≤ first_key (node (suc l) index) → past (node (suc l) index) ≤ to → ⊥) → CutRow from to l half n → CutRow from to (suc l) index n
 up_one from to l index half n e not r = record {
   up = suc r.up;
@@ -81,8 +89,7 @@ cut_row from to =
 
 never_apart : (from to level index : ℕ) (n : Node) → CutRow from to level index n → (to ≤ first_key (node level index)) ⊎ (past (node level index) ≤ from) → ⊥
 never_apart from to level index n r o =
-    let a = subst (λ (k : Node). first_key k ≤ first_key n) r.under (climb-first r.up n) in
-    let b = subst (λ (k : Node). past n ≤ past k) r.under (climb-past r.up n) in
+    let u = row_under r in
     let c = first_past n in
     let low = r.low in
     let high = r.high in

@@ -9,8 +9,8 @@ use Rattle.cover.specs.declared.node.Node.{Node}
 use Rattle.cover.specs.declared.node.Span.{Span}
 use Rattle.cover.specs.Tree.{first_key, past, KeySet, Cover, held, named, both, sound}
 use Rattle.cover.specs.Cut.{cut, left_rows}
-use Rattle.cover.proofs.Geometry.{climb-level, climb-first, climb-past, first_past}
-use Rattle.cover.proofs.Cuts.{cut_row}
+use Rattle.cover.proofs.Geometry.{first_past}
+use Rattle.cover.proofs.Cuts.{row_under, cut_row}
 use Rattle.cover.proofs.Covers.{cover_unique, left-cover}
 use Rattle.cover.proofs.Held.{in_held, one-row}
 use Rattle.cover.proofs.Members.{from_joined}
@@ -39,22 +39,19 @@ above height keys s rs n c m = by (row_over rs (first_key n)) refl
     from : (x : Node) × Memᴰ x (map node_of rs) × Memᴰ n (cut s.from s.to x.level x.index)
     from = from_joined (λ (x : Node). cut s.from s.to x.level x.index) (map node_of rs) n m
 
-    low : first_key from.0 ≤ first_key n
-    low = let r = cut_row s.from s.to from.0.level from.0.index n from.2 in subst (λ (x : Node). first_key x ≤ first_key n) r.under (climb-first r.up n)
+    under : (n.level ≤ from.0.level) × (first_key from.0 ≤ first_key n) × (past n ≤ past from.0)
+    under = row_under (cut_row s.from s.to from.0.level from.0.index n from.2)
 
     high : first_key n < past from.0
-    high = let r = cut_row s.from s.to from.0.level from.0.index n from.2 in let p = subst (λ (x : Node). past n ≤ past x) r.under (climb-past r.up n) in omega (arith, first_past n)
-
-    lower : n.level ≤ from.0.level
-    lower = let r = cut_row s.from s.to from.0.level from.0.index n from.2 in omega (arith, climb-level r.up n, ap (λ (x : Node). x.level) r.under)
+    high = omega (arith, under.2, first_past n)
 
     by : (o : Option Row) → row_over rs (first_key n) ≡ o → Above rs n
-    by None u = absurd (both_ways (held (map node_of rs) (first_key n)) (under_none rs (first_key n) u) (in_held (map node_of rs) from.0 (first_key n) from.1 low high))
+    by None u = absurd (both_ways (held (map node_of rs) (first_key n)) (under_none rs (first_key n) u) (in_held (map node_of rs) from.0 (first_key n) from.1 under.1 high))
     by (Some y) u =
         let q = under_member rs (first_key n) y u in
         let o = stands_from (node_of y) (first_key n) q.1 in
-        let same : node_of y ≡ from.0 = one-row 0 (2 ^ height) (map node_of rs) (node_of y) from.0 (first_key n) c.rising (member_map node_of rs y q.0) from.1 o.0 o.1 low high in
-        record { row = y; found = u; level = omega (arith, lower, ap (λ (x : Node). x.level) same) }
+        let same : node_of y ≡ from.0 = one-row 0 (2 ^ height) (map node_of rs) (node_of y) from.0 (first_key n) c.rising (member_map node_of rs y q.0) from.1 o.0 o.1 under.1 high in
+        record { row = y; found = u; level = omega (arith, under.0, ap (λ (x : Node). x.level) same) }
 
 module _ {C : Type 0} (e : Encrypted) (words : ℕ) (s : Span) (g : Grant C) where
   -- a refusal leaves the grant as it was

@@ -1,5 +1,5 @@
 -- The first rule that applies. Assumes nothing.
-use Rattle.std.proofs.Common.{◌≡◌, ℕ, true, false, cond, [], ◌∷◌, ◌++◌, Ok, Err, sym, refl, ap, ◌∙◌, arith}
+use Rattle.std.proofs.Common.{◌≡◌, ℕ, [], ◌∷◌, ◌++◌, Ok, Err, sym, refl, ap, ◌∙◌, arith}
 use Rattle.refusal.specs.declared.Refusal.{Refusal}
 use Rattle.refusal.specs.Judged.{Rules, judged, refusal}
 use Rattle.refusal.proofs.Judging.{refusal-judged, judged-refused, first_stays}
