@@ -10,7 +10,7 @@ use Rattle.cover.specs.declared.node.Span.{Span}
 use Rattle.cover.specs.Tree.{first_key, past, parent, KeySet, Whole, RowOf, Rising, Cover, named, named_by, both, Spaced}
 use Rattle.cover.specs.Cut.{node, cut, spans_rows, left_rows}
 use Rattle.cover.proofs.Geometry.{pow-next, climb, climb-parent, climb-level, climb-first, climb-past, first_past, same-node}
-use Rattle.cover.proofs.Cuts.{CutRow, cut_row, cut_has, cut-rising, cut-between, rising-lower, rising-append}
+use Rattle.cover.proofs.Cuts.{CutRow, row_under, cut_row, cut_has, cut-rising, cut-between, rising-lower, rising-append}
 use Rattle.cover.proofs.Members.{from_joined, in_joined, same_members}
 
 -- A set of keys has one list of rows.
@@ -248,9 +248,7 @@ module _ (height : ℕ) (keys : KeySet) (s : Span) where
 
   left-row : (r n : Node) → RowOf height keys r → CutRow s.from s.to r.level r.index n → RowOf height (both keys (named s)) n
   left-row r n o c =
-      let level : n.level + c.up ≡ r.level = sym (climb-level c.up n) ∙ ap (λ (x : Node). x.level) c.under in
-      let start = subst (λ (x : Node). first_key x ≤ first_key n) c.under (climb-first c.up n) in
-      let high = subst (λ (x : Node). past n ≤ past x) c.under (climb-past c.up n) in
+      let u = row_under c in
       record {
         low = omega (arith, o.low);
         inside = omega (arith, o.inside);

@@ -1,5 +1,5 @@
 -- The steps of the cutting, over what the code knows. Assumes nothing.
-use Rattle.std.proofs.Common.{◌≡◌, ℕ, ◌+◌, ◌-◌, ◌*◌, ◌<◌, ◌≤◌, ◌⊎◌, List, [], ◌∷◌, ◌++◌, length, Err, Result, MatchResult, sym, ap, ◌∙◌, subst, ⊎_elim, append_assoc, append-nil, arith, length-append}
+use Rattle.std.proofs.Common.{◌≡◌, ℕ, ◌+◌, ◌-◌, ◌*◌, ◌<◌, ◌≤◌, ◌⊎◌, List, [], ◌∷◌, ◌++◌, length, Err, Result, MatchResult, sym, ap, ◌∙◌, subst, append_assoc, append-nil, arith, length-append}
 use Rattle.std.specs.Result.{IsErrAnd}
 use Rattle.std.proofs.lemmas.Result.{err_from_is_err_and}
 use Rattle.refusal.specs.declared.Refusal.{Refusal}
@@ -7,24 +7,20 @@ use Rattle.refusal.specs.declared.Refusal.TheVariants.{TooManyRows}
 use Rattle.cover.specs.declared.node.Node.{Node}
 use Rattle.cover.specs.Tree.{first_key, past}
 use Rattle.cover.specs.Cut.{node, cut, Adds}
-use Rattle.cover.proofs.Cuts.{cut_apart, cut-whole, cut-partly, Halved}
+use Rattle.cover.proofs.Cuts.{cut_apart, cut-whole, Halved}
 
 abbrev pub Answer : Type 0
 Answer = Result (Unit {0}) Refusal
 
 -- a refusal that `?` passes on is the callee's
-pub passed_on : {R : Type 0} (P : Result R Refusal → Type 0) (why : Refusal) {r : Result R Refusal} → IsErrAnd r (λ (e : Refusal). e ≡ why) → P (Err why) → P r
-passed_on P why {r} h p = let q = err_from_is_err_and r h in subst P (sym (q.1 ∙ ap Err q.2)) p
+pub passed_on : {R : Type 0} {why : Refusal} {r : Result R Refusal} → IsErrAnd r (λ (e : Refusal). e ≡ why) → r ≡ Err why
+passed_on {r = r} h = let q = err_from_is_err_and r h in q.1 ∙ ap Err q.2
 
 pub step-apart : (from to level index : ℕ) (before : List Node) → (to ≤ first_key (node level index)) ⊎ (past (node level index) ≤ from) → before ≡ before ++ cut from to level index
 step-apart from to level index before o = sym (append-nil before) ∙ ap (λ (x : List Node). before ++ x) (sym (cut_apart from to level index o))
 
 pub step-whole : (r : Answer) (from to level index : ℕ) (before after : List Node) → from ≤ first_key (node level index) → past (node level index) ≤ to → Adds r before (node level index ∷ []) after → Adds r before (cut from to level index) after
 step-whole r from to level index before after f p h = subst (λ (x : List Node). Adds r before x after) (sym (cut-whole from to level index f p)) h
-
-pub halved-at : (from to level index first' past' : ℕ) → first' ≡ first_key (node level index) → past' ≡ past (node level index) → first' < to → from < past' → ((from ≤ first') × (to < past')) ⊎ (first' < from) → Halved from to level index
-halved-at from to level index first' past' e f a b o =
-    cut-partly from to level index (omega arith) (omega arith) (λ p q. ⊎_elim (λ (h : (from ≤ first') × (to < past')). omega (arith, h.1)) (λ (h : first' < from). omega arith) o)
 
 pub step_left : (from to level index : ℕ) (before : List Node) → Halved from to level index → 128 < length (before ++ cut from to (level - 1) (2 * index)) → 128 < length (before ++ cut from to level index)
 step_left from to level index before h l =
@@ -38,7 +34,3 @@ step_right r from to level index before mid after h m w =
     let right = cut from to (level - 1) (2 * index + 1) in
     let e : mid ++ right ≡ before ++ cut from to level index = ap (λ (x : List Node). x ++ right) m ∙ append_assoc before left right ∙ ap (λ (x : List Node). before ++ x) (sym h.parts) in
     subst (λ (x : List Node). MatchResult r (λ _. after ≡ x) (λ why. (why ≡ TooManyRows) × (128 < length x))) e w
-
--- a list with too many nodes is not mended by what comes after
-pub more_than : (before here rest all : List Node) → before ++ (here ++ rest) ≡ all → 128 < length (before ++ here) → 128 < length all
-more_than before here rest all e l = omega (arith, ap length e, length-append before (here ++ rest), length-append here rest, length-append before here)

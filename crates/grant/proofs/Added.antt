@@ -27,7 +27,7 @@ last_row [] = refl
 last_row (r ∷ rs) = ap (λ (n : ℕ). option_map node_of (slice_get (r ∷ rs) n)) (let q : suc (length rs) - 1 ≡ length rs = omega arith in q) ∙ sym (last_at None r rs)
 
 -- what the check of the next row says of the adding
-module _ {C : Type 0} (g : Grant C) (row : Row) (m : Option Node) (n : Node) (before : m ≡ last_of None (nodes_of g)) (here : n ≡ node_of row) where
+module _ {C : Type 0} (g : Grant C) (row : Row) {m : Option Node} {n : Node} (before : m ≡ last_of None (nodes_of g)) (here : n ≡ node_of row) where
   rules : Rules
   rules = next_rules g.height.levels (last_of None (nodes_of g)) (node_of row)
 
@@ -52,8 +52,8 @@ module _ {C : Type 0} (g : Grant C) (row : Row) (m : Option Node) (n : Node) (be
       ∙ sound_more g.height.levels (nodes_of g) (node_of row) g.sound free
 
 -- a first row that passes
-pub first_sound : (height : ℕ) (row : Row) (n : Node) → n ≡ node_of row → verdict (next_rules height None n) ≡ Ok tt → sound height (node_of row ∷ []) ≡ true
-first_sound height row n here e =
+pub first_sound : (height : ℕ) (row : Row) {n : Node} → n ≡ node_of row → verdict (next_rules height None n) ≡ Ok tt → sound height (node_of row ∷ []) ≡ true
+first_sound height row {n} here e =
     let rules = next_rules height None (node_of row) in
     let free : first rules ≡ None = sym (refusal-judged rules tt) ∙ ap refusal (ap (λ (x : Node). verdict (next_rules height None x)) (sym here) ∙ e) in
     sound_more height [] (node_of row) (and_from (leb 0 (2 ^ height)) true (le-leb 0 (2 ^ height) (omega arith)) refl) free

@@ -6,7 +6,7 @@ use native.Mathlib.Nat.{div-eq_of_lt-le}
 use Rattle.std.specs.List.{find}
 use Rattle.std.proofs.Math.ListN.{get_or-map}
 use Rattle.std.proofs.lemmas.Nat.{shr_split, mod_below}
-use Rattle.std.proofs.lemmas.List.{length-take-le, get_or-take}
+use Rattle.std.proofs.lemmas.List.{get_or-take}
 use Rattle.std.proofs.lemmas.Bool.{cases_Bool, leb-true, ltb-true, and_parts}
 use Rattle.std.proofs.lemmas.Bool.Decides.{eqb_tells, nat_tests}
 use Rattle.std.proofs.Math.Dec.{eqb}
@@ -14,12 +14,9 @@ use Rattle.cover.specs.declared.node.Node.{Node}
 use Rattle.cover.specs.Tree.{first_key, past, stands, held, RowOf}
 use Rattle.cover.proofs.Sound.{sound-cover}
 use Rattle.grant.specs.declared.grant.row.Row.{Row}
-use Rattle.grant.specs.Rows.{node_of, sound_rows}
+use Rattle.grant.specs.Rows.{zero_row, node_of, sound_rows}
 use Rattle.grant.specs.Grants.{row_over}
 use Rattle.grant.specs.Filling.{over}
-
-abbrev pub no_row : Row
-no_row = record { level = 0; index = 0; seed = record { high = 0; low = 0 } }
 
 pub member_at : {X : Type 0} (xs : List X) (i : ℕ) (d : X) → i < length xs → Memᴰ (get_or xs i d) xs
 member_at [] i d h = absurd (omega arith)
@@ -77,5 +74,5 @@ under-inside height count rows k r e u = row_in height count rows r e (under_mem
 pub rows-low : (height count : ℕ) (rows : List Row) → height ≤ 32 → sound_rows height count rows ≡ true → (r : Row) → Memᴰ r (take count rows) → r.level ≤ 32
 rows-low height count rows high e r m = let inside = row_in height count rows r e m in omega (arith, inside.low)
 
-pub node_at : (count : ℕ) (rows : List Row) (i : ℕ) → i < count → get_or (map node_of (take count rows)) i (node_of no_row) ≡ node_of (get_or rows i no_row)
-node_at count rows i h = get_or-map node_of (take count rows) i no_row ∙ ap node_of (get_or-take count rows i no_row h)
+pub node_at : (count : ℕ) (rows : List Row) (i : ℕ) → i < count → get_or (map node_of (take count rows)) i (node_of zero_row) ≡ node_of (get_or rows i zero_row)
+node_at count rows i h = get_or-map node_of (take count rows) i zero_row ∙ ap node_of (get_or-take count rows i zero_row h)

@@ -1,5 +1,5 @@
 -- What an issue comes to. Assumes nothing.
-use Rattle.std.proofs.Common.{◌≡◌, ℕ, ◌+◌, ◌-◌, ◌^◌, ◌<◌, ◌≤◌, Bool, true, false, cond, eqb, ltb, leb, List, [], ◌∷◌, ◌++◌, map, length, take, Ok, Err, sym, refl, ap, ◌∙◌, subst, arith}
+use Rattle.std.proofs.Common.{◌≡◌, ℕ, ◌+◌, ◌-◌, ◌^◌, ◌<◌, ◌≤◌, true, cond, ltb, leb, List, [], ◌∷◌, ◌++◌, map, length, get_or, take, Ok, Err, sym, refl, ap, ◌∙◌, subst, arith}
 use mathlib.Core.List.{Memᴰ}
 use Rattle.refusal.specs.declared.Refusal.{Refusal}
 use Rattle.refusal.specs.declared.Refusal.TheVariants.{TooManyRows}
@@ -22,10 +22,7 @@ use Rattle.grant.proofs.Verdicts.{verdict, refused-ok, judged-found, judged-rest
 use Rattle.grant.specs.Grants.{rows_of, seeded}
 use Rattle.grant.specs.Calls.{Issues}
 use Rattle.grant.proofs.Filled.{from-map, map_back}
-
--- a list of spans that is not empty
-pub some_spans : (ss : List Span) (b : Bool) → b ≡ eqb (length ss) 0 → b ≡ false → 0 < length ss
-some_spans ss b e f = grind (arith, nat_tests)
+use Rattle.grant.proofs.Found.{member_at}
 
 -- spans without a fault are spaced
 pub spaced-from : (from limit : ℕ) (ss : List Span) → verdict (span_rules from limit ss) ≡ Ok tt → Spaced from limit ss
@@ -46,23 +43,23 @@ module _ (words height : ℕ) (ss : List Span) (room : 66 ≤ words) (some : 0 <
   span_fault e root g n f =
       refused e root g n (λ rows c. sym (after-counts (length rows) ∙ judged-found (span_rules 0 (2 ^ height) ss) ((ltb 128 (length rows), TooManyRows) ∷ []) n (sym f)))
 
-  module _ (fine : Ok tt ≡ verdict (span_rules 0 (2 ^ height) ss)) where
-    cover : Cover height (named_by ss) (spans_rows height ss)
-    cover = spans_cover height ss (spaced-from 0 (2 ^ height) ss (sym fine))
+  module _ (fine : Ok tt ≡ verdict (span_rules 0 (2 ^ height) ss)) (nodes : List Node) (are : nodes ≡ spans_rows height ss) where
+    cover : Cover height (named_by ss) nodes
+    cover = subst (Cover height (named_by ss)) (sym are) (spans_cover height ss (spaced-from 0 (2 ^ height) ss (sym fine)))
 
-    after_spans : (rows : List Node) → Cover height (named_by ss) rows → verdict (issue_rules words height ss (length rows)) ≡ cond (ltb 128 (length (spans_rows height ss))) (Err TooManyRows) (Ok tt)
+    after_spans : (rows : List Node) → Cover height (named_by ss) rows → verdict (issue_rules words height ss (length rows)) ≡ cond (ltb 128 (length nodes)) (Err TooManyRows) (Ok tt)
     after_spans rows c =
-        after-counts (length rows) ∙ judged-rest (span_rules 0 (2 ^ height) ss) ((ltb 128 (length rows), TooManyRows) ∷ []) (sym fine) ∙ ap (λ (x : List Node). cond (ltb 128 (length x)) (Err TooManyRows) (Ok tt)) (cover_unique height (named_by ss) rows (spans_rows height ss) c cover)
+        after-counts (length rows) ∙ judged-rest (span_rules 0 (2 ^ height) ss) ((ltb 128 (length rows), TooManyRows) ∷ []) (sym fine) ∙ ap (λ (x : List Node). cond (ltb 128 (length x)) (Err TooManyRows) (Ok tt)) (cover_unique height (named_by ss) rows nodes c cover)
 
-    pub many_rows : {C : Type 0} (e : Encrypted) (root : Block) (g : Grant C) (why : Refusal) → why ≡ TooManyRows → 128 < length (spans_rows height ss) → Issues e height root ss words g (Err why) g
+    pub many_rows : {C : Type 0} (e : Encrypted) (root : Block) (g : Grant C) (why : Refusal) → why ≡ TooManyRows → 128 < length nodes → Issues e height root ss words g (Err why) g
     many_rows e root g why is l =
         refused e root g why (λ rows c. let q = after_spans rows c in ap Err is ∙ grind (arith, nat_tests))
 
-    pub low_rows : (i : ℕ) (d : Node) → i < length (spans_rows height ss) → (lib.ListN.get_or (spans_rows height ss) i d).level ≤ height
-    low_rows i d h = (cover.row (lib.ListN.get_or (spans_rows height ss) i d) (Rattle.grant.proofs.Found.member_at (spans_rows height ss) i d h)).low
+    pub low_rows : (d : Node) (i : ℕ) → i < length nodes → (get_or nodes i d).level ≤ height
+    low_rows d i h = (cover.row (get_or nodes i d) (member_at nodes i d h)).low
 
-    pub some-rows : 0 < length (spans_rows height ss)
-    some-rows = by ss refl (spans_rows height ss) cover
+    pub some-rows : 0 < length nodes
+    some-rows = by ss refl nodes cover
       where
         by : (xs : List Span) → ss ≡ xs → (ns : List Node) → Cover height (named_by ss) ns → 0 < length ns
         by [] e ns c = absurd (omega (arith, ap length e))
@@ -73,20 +70,20 @@ module _ (words height : ℕ) (ss : List Span) (room : 66 ≤ words) (some : 0 <
             let on' : named_by ss s.from ≡ true = subst (λ (x : List Span). named_by x s.from ≡ true) (sym e) on in
             absurd (both_ways (named_by ss s.from) (sym (held-keys height (named_by ss) [] s.from c (omega (arith, sp.1, sp.2)))) on')
 
-    module _ (e : Encrypted) (root : Block) (count : ℕ) (rows : List Row) (made : take count rows ≡ map (seeded e root height) (spans_rows height ss)) where
-      nodes : map node_of (take count rows) ≡ spans_rows height ss
-      nodes = ap (map node_of) made ∙ map_back (seeded e root height) node_of (λ n. refl) (spans_rows height ss)
+    module _ (e : Encrypted) (root : Block) (count : ℕ) (rows : List Row) (made : take count rows ≡ map (seeded e root height) nodes) where
+      made_nodes : map node_of (take count rows) ≡ nodes
+      made_nodes = ap (map node_of) made ∙ map_back (seeded e root height) node_of (λ n. refl) nodes
 
       pub made_sound : sound_rows height count rows ≡ true
-      made_sound = ap (λ (x : List Node). sound height x) nodes ∙ cover-sound height (named_by ss) (spans_rows height ss) cover
+      made_sound = ap (λ (x : List Node). sound height x) made_nodes ∙ cover-sound height (named_by ss) nodes cover
 
-      pub accepted : {C : Type 0} (before after : Grant C) → after.height.levels ≡ height → rows_of after ≡ take count rows → length (spans_rows height ss) ≤ 128 → Issues e height root ss words before (Ok tt) after
+      pub accepted : {C : Type 0} (before after : Grant C) → after.height.levels ≡ height → rows_of after ≡ take count rows → length nodes ≤ 128 → Issues e height root ss words before (Ok tt) after
       accepted before after h same l = record {
         answers = λ ns c. let q = after_spans ns c in grind (arith, nat_tests);
         holds = λ z. record {
           height = h;
-          rows = subst (λ (x : List Node). Cover height (named_by ss) x) (sym (ap (map node_of) same ∙ nodes)) cover;
-          seeds = λ r m. let q = from-map (seeded e root height) (spans_rows height ss) r (subst (λ (x : List Row). Memᴰ r x) (same ∙ made) m) in
+          rows = subst (λ (x : List Node). Cover height (named_by ss) x) (sym (ap (map node_of) same ∙ made_nodes)) cover;
+          seeds = λ r m. let q = from-map (seeded e root height) nodes r (subst (λ (x : List Row). Memᴰ r x) (same ∙ made) m) in
               ap (λ (x : Row). x.seed) q.2 ∙ ap (λ (x : Row). walk e root (height - x.level) x.index) (sym q.2);
         };
         kept = λ m z. absurd (refused-ok (sym z));

@@ -1,5 +1,5 @@
 -- The first rule that applies. Assumes nothing.
-use Rattle.std.proofs.Common.{◌≡◌, ℕ, Bool, false, [], ◌∷◌, ◌++◌, Ok, Err, sym, refl, ap, ◌∙◌, arith}
+use Rattle.std.proofs.Common.{◌≡◌, ℕ, [], ◌∷◌, ◌++◌, Ok, Err, sym, refl, ap, ◌∙◌, arith}
 use Rattle.refusal.specs.declared.Refusal.{Refusal}
 use Rattle.refusal.specs.Judged.{Rules, judged, refusal}
 use Rattle.refusal.proofs.Judging.{refusal-judged, judged-refused, first_stays}
@@ -16,9 +16,6 @@ refused-ok e = let z : ◌≡◌ {A = ℕ} 0 1 = cc in omega arith
 pub judged-found : (xs ys : Rules) (n : Refusal) → verdict xs ≡ Err n → verdict (xs ++ ys) ≡ Err n
 judged-found xs ys n e = judged-refused (xs ++ ys) tt (first_stays xs ys (sym (refusal-judged xs tt) ∙ ap refusal e))
 
-pub judged-none : (a : (Bool × Refusal)) (xs : Rules) → verdict (a ∷ xs) ≡ Ok tt → (a.0 ≡ false) × (verdict xs ≡ Ok tt)
-judged-none a xs e = grind arith
-
 pub judged-rest : (xs ys : Rules) → verdict xs ≡ Ok tt → verdict (xs ++ ys) ≡ verdict ys
 judged-rest [] ys e = refl
-judged-rest (a ∷ xs) ys e = let h = judged-none a xs e in let rest = judged-rest xs ys h.1 in grind arith
+judged-rest (a ∷ xs) ys e = let rest = judged-rest xs ys in grind arith

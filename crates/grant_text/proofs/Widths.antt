@@ -42,6 +42,8 @@ fits_11 n h = length-decimal-le 11 n (omega arith) h (omega arith)
 pub fits_21 : (n : ℕ) → n < 2 ^ 64 → length (decimal n) ≤ 21
 fits_21 n h = length-decimal-le 21 n (omega arith) (omega arith) h
 
+pub ruleset fitting = (fits_3, fits_4, fits_11, fits_21)
+
 pub length-row_line : (r : Row) → FitsLine r → length (row_line r) ≡ 57
 unfolding row_line
 length-row_line r fits =

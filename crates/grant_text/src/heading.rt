@@ -60,6 +60,7 @@ fn read_sizes(rest: &[u8]) -> Option<(u64, u64)>
 }
 
 // The bounds are those of what fits a column.
+#[tactic(auto, using(crate::proofs::Widths::fitting))]
 pub(crate) fn write_heading(out: &mut [u8], sizes: Sizes)
     requires long { length out.old ≡ 12 }
     requires low { sizes.height < 10 ^ 3 }

@@ -37,6 +37,7 @@ pub(crate) fn row_at(text: &[u8], i: usize) -> Option<Row>
 }
 
 // The bounds are those of what fits a column.
+#[tactic(auto, using(crate::proofs::Widths::fitting))]
 pub(crate) fn write_line(out: &mut [u8], row: Row)
     requires long { length out.old ≡ 57 }
     requires level { row.level < 10 ^ 3 }

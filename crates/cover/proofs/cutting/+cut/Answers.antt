@@ -1,7 +1,7 @@
 use Rattle.std.proofs.Common.{inl, inr, ⊎_elim, arith}
-use Rattle.cover.specs.Cut.{cut, Adds}
 use Rattle.cover.specs.Listed.{listed}
-use Rattle.cover.proofs.Steps.{Answer, passed_on, step-apart, step-whole, halved-at, step_left, step_right}
+use Rattle.cover.proofs.Cuts.{cut-partly}
+use Rattle.cover.proofs.Steps.{passed_on, step-apart, step-whole, step_left, step_right}
 use Rattle.cover.proofs.cutting.+cut.Goals as goal
 
 pub returns-then-span-first-clause-added : goal.returns-then-span-first-clause-added
@@ -14,24 +14,24 @@ returns-then-past-span-2-clause-added t c =
 
 pub cut-requires : goal.cut-requires
 cut-requires t c =
-    let h = halved-at c.args.span.from c.args.span.to c.args.level c.args.index _ _ c.first_key-first.ensures c.first_key-past.ensures c.if-span-first.false c.if-past-span.false c.else-span-first-2.either in
+    let h = cut-partly c.args.span.from c.args.span.to c.args.level c.args.index (omega arith) (omega arith) (λ p q. omega (arith, c.else-span-first-2.either)) in
     (omega arith, (omega arith, omega (arith, h.left_in)))
 
 pub returns-in_err-cut-clause-added : goal.returns-in_err-cut-clause-added
 returns-in_err-cut-clause-added t c =
     let s = c.args.span in
     let before = listed c.args.rows.now in
-    let h = halved-at s.from s.to c.args.level c.args.index _ _ c.first_key-first.ensures c.first_key-past.ensures c.if-span-first.false c.if-past-span.false c.else-span-first-2.either in
+    let h = cut-partly s.from s.to c.args.level c.args.index (omega arith) (omega arith) (λ p q. omega (arith, c.else-span-first-2.either)) in
     let w = c.in_err-cut.ensures.added in
-    passed_on (λ (r : Answer). Adds r before (cut s.from s.to c.args.level c.args.index) (listed c.cut.new.rows)) _ c.from_residual.ensures.1 (w.0, step_left s.from s.to c.args.level c.args.index before h w.1)
+    rw (passed_on c.from_residual.ensures.1) (w.0, step_left s.from s.to c.args.level c.args.index before h w.1)
 
 pub cut-requires-2 : goal.cut-requires-2
 cut-requires-2 t c =
-    let h = halved-at c.args.span.from c.args.span.to c.args.level c.args.index _ _ c.first_key-first.ensures c.first_key-past.ensures c.if-span-first.false c.if-past-span.false c.else-span-first-2.either in
+    let h = cut-partly c.args.span.from c.args.span.to c.args.level c.args.index (omega arith) (omega arith) (λ p q. omega (arith, c.else-span-first-2.either)) in
     (omega arith, (omega arith, omega (arith, h.right_in)))
 
 pub returns-clause-added : goal.returns-clause-added
 returns-clause-added t c =
     let s = c.args.span in
-    let h = halved-at s.from s.to c.args.level c.args.index _ _ c.first_key-first.ensures c.first_key-past.ensures c.if-span-first.false c.if-past-span.false c.else-span-first-2.either in
+    let h = cut-partly s.from s.to c.args.level c.args.index (omega arith) (omega arith) (λ p q. omega (arith, c.else-span-first-2.either)) in
     step_right c.cut-2.result s.from s.to c.args.level c.args.index (listed c.args.rows.now) (listed c.cut.new.rows) (listed c.cut-2.new.rows) h c.in_ok-cut.ensures.added c.cut-2.ensures.added

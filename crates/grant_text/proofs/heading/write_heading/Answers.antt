@@ -1,14 +1,8 @@
 use Rattle.std.proofs.Common.{◌++◌, ap, ◌∙◌, arith}
 use Rattle.grant_text.specs.Columns.{column}
 use Rattle.grant_text.specs.Texts.{sizes}
-use Rattle.grant_text.proofs.Widths.{fits_3, fits_4, wide, last_byte}
+use Rattle.grant_text.proofs.Widths.{wide, last_byte}
 use Rattle.grant_text.proofs.heading.write_heading.Goals as goal
-
-pub write_column-requires : goal.write_column-requires
-write_column-requires c = omega (arith, fits_3 c.from.result (omega (arith, c.from.ensures, c.requires.low)), c.split_at_mut-height.ensures.front_len)
-
-pub write_column-requires-2 : goal.write_column-requires-2
-write_column-requires-2 c = omega (arith, fits_4 c.args.sizes.count c.requires.few, c.split_at_mut-count.ensures.front_len)
 
 pub returns : goal.returns
 unfolding sizes

@@ -7,17 +7,22 @@ use Rattle.grant_text.proofs.Cuts.{column_once}
 use Rattle.grant_text.proofs.Widths.{digits-fit, fits_3, fits_11, fits_21}
 use Rattle.grant_text.proofs.line.read_line.Goals as goal
 
--- What stands after the columns of a row's line that were taken.
-module _ (s : List ℕ) (x : Row) (fits : FitsLine x) (e : s ≡ row_line x) where
-  after_level : (p : ℕ) (a : List ℕ) → p < 2 ^ 64 → (length (decimal p) ≤ 3) × (s ≡ column 3 p ++ a) → a ≡ column 11 x.index ++ (column 21 x.seed.high ++ (column 21 x.seed.low ++ (10 ∷ [])))
+-- What stands after each column of a row's line that was taken.
+module _ (s : List ℕ) (x : Row) (fits : FitsLine x) (e : s ≡ row_line x) (level : ℕ) (a : List ℕ) (small : level < 2 ^ 64) (got : (length (decimal level) ≤ 3) × (s ≡ column 3 level ++ a)) where
+  after_level : a ≡ column 11 x.index ++ (column 21 x.seed.high ++ (column 21 x.seed.low ++ (10 ∷ [])))
   unfolding row_line
-  after_level p a small got = (column_once 3 p x.level _ _ small (omega (arith, fits.0)) got.0 (fits_3 _ fits.0) (sym got.1 ∙ e)).1
+  after_level = (column_once 3 level x.level _ _ small (omega (arith, fits.0)) got.0 (fits_3 _ fits.0) (sym got.1 ∙ e)).1
 
-  after_index : (p : ℕ) (a b : List ℕ) → p < 2 ^ 64 → (length (decimal p) ≤ 11) × (a ≡ column 11 p ++ b) → a ≡ column 11 x.index ++ (column 21 x.seed.high ++ (column 21 x.seed.low ++ (10 ∷ []))) → b ≡ column 21 x.seed.high ++ (column 21 x.seed.low ++ (10 ∷ []))
-  after_index p a b small got is = (column_once 11 p x.index _ _ small (omega (arith, fits.1)) got.0 (fits_11 _ fits.1) (sym got.1 ∙ is)).1
+  module _ (index : ℕ) (b : List ℕ) (small' : index < 2 ^ 64) (got' : (length (decimal index) ≤ 11) × (a ≡ column 11 index ++ b)) where
+    after_index : b ≡ column 21 x.seed.high ++ (column 21 x.seed.low ++ (10 ∷ []))
+    after_index = (column_once 11 index x.index _ _ small' (omega (arith, fits.1)) got'.0 (fits_11 _ fits.1) (sym got'.1 ∙ after_level)).1
 
-  after_high : (p : ℕ) (a b : List ℕ) → p < 2 ^ 64 → (length (decimal p) ≤ 21) × (a ≡ column 21 p ++ b) → a ≡ column 21 x.seed.high ++ (column 21 x.seed.low ++ (10 ∷ [])) → b ≡ column 21 x.seed.low ++ (10 ∷ [])
-  after_high p a b small got is = (column_once 21 p x.seed.high _ _ small fits.2 got.0 (fits_21 _ fits.2) (sym got.1 ∙ is)).1
+    module _ (high : ℕ) (d : List ℕ) (small'' : high < 2 ^ 64) (got'' : (length (decimal high) ≤ 21) × (b ≡ column 21 high ++ d)) where
+      after_high : d ≡ column 21 x.seed.low ++ (10 ∷ [])
+      after_high = (column_once 21 high x.seed.high _ _ small'' fits.2 got''.0 (fits_21 _ fits.2) (sym got''.1 ∙ after_index)).1
+
+      after_low : (low : ℕ) (end : List ℕ) → low < 2 ^ 64 → (length (decimal low) ≤ 21) × (d ≡ column 21 low ++ end) → end ≡ 10 ∷ []
+      after_low low end under last = (column_once 21 low x.seed.low _ _ under fits.3 last.0 (fits_21 _ fits.3) (sym last.1 ∙ after_high)).1
 
 pub returns-in_err-level : goal.returns-in_err-level
 unfolding row_line
@@ -27,23 +32,20 @@ returns-in_err-level c =
 pub returns-in_err-index : goal.returns-in_err-index
 returns-in_err-index c =
     rw c.from_residual-in_err-index.ensures (λ x fits e.
-    let f1 = after_level c.args.s.now x fits e c.in_ok-level.level _ (search rules) c.in_ok-level.ensures in
-    c.in_err-index.ensures x.index _ (omega (arith, fits.1)) (fits_11 _ fits.1) f1)
+    c.in_err-index.ensures x.index _ (omega (arith, fits.1)) (fits_11 _ fits.1)
+    (after_level c.args.s.now x fits e c.in_ok-level.level _ (search rules) c.in_ok-level.ensures))
 
 pub returns-in_err-high : goal.returns-in_err-high
 returns-in_err-high c =
     rw c.from_residual-in_err-high.ensures (λ x fits e.
-    let f1 = after_level c.args.s.now x fits e c.in_ok-level.level _ (search rules) c.in_ok-level.ensures in
-    let f2 = after_index c.args.s.now x fits e c.in_ok-index.index _ _ (search rules) c.in_ok-index.ensures f1 in
-    c.in_err-high.ensures x.seed.high _ fits.2 (fits_21 _ fits.2) f2)
+    c.in_err-high.ensures x.seed.high _ fits.2 (fits_21 _ fits.2)
+    (after_index c.args.s.now x fits e c.in_ok-level.level _ (search rules) c.in_ok-level.ensures c.in_ok-index.index _ (search rules) c.in_ok-index.ensures))
 
 pub returns-in_err-low : goal.returns-in_err-low
 returns-in_err-low c =
     rw c.from_residual-in_err-low.ensures (λ x fits e.
-    let f1 = after_level c.args.s.now x fits e c.in_ok-level.level _ (search rules) c.in_ok-level.ensures in
-    let f2 = after_index c.args.s.now x fits e c.in_ok-index.index _ _ (search rules) c.in_ok-index.ensures f1 in
-    let f3 = after_high c.args.s.now x fits e c.in_ok-high.high _ _ (search rules) c.in_ok-high.ensures f2 in
-    c.in_err-low.ensures x.seed.low _ fits.3 (fits_21 _ fits.3) f3)
+    c.in_err-low.ensures x.seed.low _ fits.3 (fits_21 _ fits.3)
+    (after_high c.args.s.now x fits e c.in_ok-level.level _ (search rules) c.in_ok-level.ensures c.in_ok-index.index _ (search rules) c.in_ok-index.ensures c.in_ok-high.high _ (search rules) c.in_ok-high.ensures))
 
 pub overflow_cast-result : goal.overflow_cast-result
 overflow_cast-result c =
@@ -51,13 +53,8 @@ overflow_cast-result c =
     search rules
 
 pub returns-then-ne : goal.returns-then-ne
-unfolding row_line
 returns-then-ne c x fits e =
-    let f1 = after_level c.args.s.now x fits e c.in_ok-level.level _ (search rules) c.in_ok-level.ensures in
-    let f2 = after_index c.args.s.now x fits e c.in_ok-index.index _ _ (search rules) c.in_ok-index.ensures f1 in
-    let f3 = after_high c.args.s.now x fits e c.in_ok-high.high _ _ (search rules) c.in_ok-high.ensures f2 in
-    let low = c.in_ok-low.ensures in
-    let end : c.in_ok-low.end.now ≡ 10 ∷ [] = (column_once 21 c.in_ok-low.low x.seed.low _ _ (search rules) fits.3 low.0 (fits_21 _ fits.3) (sym low.1 ∙ f3)).1 in
+    let end : c.in_ok-low.end.now ≡ 10 ∷ [] = after_low c.args.s.now x fits e c.in_ok-level.level _ (search rules) c.in_ok-level.ensures c.in_ok-index.index _ (search rules) c.in_ok-index.ensures c.in_ok-high.high _ (search rules) c.in_ok-high.ensures c.in_ok-low.low _ (search rules) c.in_ok-low.ensures in
     search rules
 
 pub returns : goal.returns

@@ -1,20 +1,8 @@
 use Rattle.std.proofs.Common.{◌++◌, ap, ◌∙◌, arith}
 use Rattle.grant_text.specs.Columns.{column}
 use Rattle.grant_text.specs.Texts.{row_line}
-use Rattle.grant_text.proofs.Widths.{fits_3, fits_11, fits_21, wide, last_byte}
+use Rattle.grant_text.proofs.Widths.{wide, last_byte}
 use Rattle.grant_text.proofs.line.write_line.Goals as goal
-
-pub write_column-requires : goal.write_column-requires
-write_column-requires c = omega (arith, fits_3 c.from.result (omega (arith, c.from.ensures, c.requires.level)), c.split_at_mut-level.ensures.front_len)
-
-pub write_column-requires-2 : goal.write_column-requires-2
-write_column-requires-2 c = omega (arith, fits_11 c.args.row.index c.requires.index, c.split_at_mut-index.ensures.front_len)
-
-pub write_column-requires-3 : goal.write_column-requires-3
-write_column-requires-3 c = omega (arith, fits_21 c.args.row.seed.high (omega arith), c.split_at_mut-high.ensures.front_len)
-
-pub write_column-requires-4 : goal.write_column-requires-4
-write_column-requires-4 c = omega (arith, fits_21 c.args.row.seed.low (omega arith), c.split_at_mut-low.ensures.front_len)
 
 pub returns-clause-is : goal.returns-clause-is
 unfolding row_line

@@ -1,69 +1,53 @@
-use Rattle.std.proofs.Common.{◌≡◌, ℕ, ◌<◌, ◌≤◌, List, map, length, take, sym, refl, ap, ◌∙◌, subst, arith}
-use Rattle.cover.specs.declared.node.Node.{Node}
-use Rattle.cover.specs.Cut.{node, spans_rows}
+use Rattle.std.proofs.Common.{◌<◌, length, refl, ◌∙◌, arith}
+use Rattle.std.proofs.lemmas.Bool.Decides.{nat_tests}
+use Rattle.cover.specs.Cut.{node}
 use Rattle.cover.proofs.Steps.{passed_on}
-use Rattle.grant.specs.Rules.{Answer}
-use Rattle.grant.specs.Calls.{Issues}
-use Rattle.grant.specs.Grants.{seeded}
-use Rattle.grant.proofs.Issues.{some_spans, span_fault, many_rows, low_rows, some-rows, made_sound, accepted}
+use Rattle.grant.proofs.Issues.{span_fault, many_rows, low_rows, some-rows, made_sound, accepted}
 use Rattle.grant.proofs.grant.issuing.issue_with.Goals as goal
 
 pub returns-in_err-check_spans : goal.returns-in_err-check_spans
 returns-in_err-check_spans g c =
-    let e = g.C.Cipher.encrypted in
     let t = c.args.tree.now in
-    let words = length c.args.scratch.now in
-    let before = c.args.grant.now in
     let ss = c.args.spans.now in
-    passed_on (λ (r : Answer). Issues e t.height.levels t.root ss words before r before) _ c.from_residual.ensures.1
-    (span_fault words t.height.levels ss (c.in-Some.ensures.variant.0 refl) (some_spans ss c.is_empty.result c.is_empty.ensures c.if-is_empty.false) c.if-spans-gt16.false e t.root before _ c.in_err-check_spans.ensures)
+    let some : 0 < length ss = grind (arith, nat_tests) in
+    rw (passed_on c.from_residual.ensures.1)
+    (span_fault (length c.args.scratch.now) t.height.levels ss (c.in-Some.ensures.variant.0 refl) some c.if-spans-gt16.false g.C.Cipher.encrypted t.root c.args.grant.now _ c.in_err-check_spans.ensures)
 
 pub returns-in_err-list : goal.returns-in_err-list
 returns-in_err-list g c =
-    let e = g.C.Cipher.encrypted in
     let t = c.args.tree.now in
-    let words = length c.args.scratch.now in
-    let before = c.args.grant.now in
     let ss = c.args.spans.now in
+    let some : 0 < length ss = grind (arith, nat_tests) in
     let w = c.in_err-list.ensures in
-    passed_on (λ (r : Answer). Issues e t.height.levels t.root ss words before r before) _ c.from_residual-in_err-list.ensures.1
-    (many_rows words t.height.levels ss (c.in-Some.ensures.variant.0 refl) (some_spans ss c.is_empty.result c.is_empty.ensures c.if-is_empty.false) c.if-spans-gt16.false c.in_ok-check_spans.ensures e t.root before _ w.0 w.1)
+    rw (passed_on c.from_residual-in_err-list.ensures.1)
+    (many_rows (length c.args.scratch.now) t.height.levels ss (c.in-Some.ensures.variant.0 refl) some c.if-spans-gt16.false c.in_ok-check_spans.ensures _ refl g.C.Cipher.encrypted t.root c.args.grant.now _ w.0 w.1)
 
 pub seed_rows-requires-clause-below : goal.seed_rows-requires-clause-below
 seed_rows-requires-clause-below g c =
     let t = c.args.tree.now in
     let ss = c.args.spans.now in
-    let rows : c.as_slice-nodes.result.now ≡ spans_rows t.height.levels ss = c.as_slice-nodes.ensures.nodes ∙ c.in_ok-list.ensures in
-    subst (λ (x : List Node). (i : ℕ) → i < length x → (lib.ListN.get_or x i (node 0 0)).level ≤ t.height.levels) (sym rows)
-    (λ i h. low_rows (length c.args.scratch.now) t.height.levels ss (c.in-Some.ensures.variant.0 refl) (some_spans ss c.is_empty.result c.is_empty.ensures c.if-is_empty.false) c.if-spans-gt16.false c.in_ok-check_spans.ensures i (node 0 0) h)
+    let some : 0 < length ss = grind (arith, nat_tests) in
+    low_rows (length c.args.scratch.now) t.height.levels ss (c.in-Some.ensures.variant.0 refl) some c.if-spans-gt16.false c.in_ok-check_spans.ensures _ (c.as_slice-nodes.ensures.nodes ∙ c.in_ok-list.ensures) (node 0 0)
 
-pub invariant_of-grant : goal.invariant_of-grant
-invariant_of-grant g c =
+pub invariant_of-grant-clause-some : goal.invariant_of-grant-clause-some
+invariant_of-grant-clause-some g c =
     let t = c.args.tree.now in
     let ss = c.args.spans.now in
-    let e = g.C.Cipher.encrypted in
-    let words = length c.args.scratch.now in
-    let room : 66 ≤ words = c.in-Some.ensures.variant.0 refl in
-    let any = some_spans ss c.is_empty.result c.is_empty.ensures c.if-is_empty.false in
-    let nodes = c.as_slice-nodes.result.now in
-    let rows : nodes ≡ spans_rows t.height.levels ss = c.as_slice-nodes.ensures.nodes ∙ c.in_ok-list.ensures in
-    let made : take (length nodes) c.seed_rows.new.rows ≡ map (seeded e t.root t.height.levels) (spans_rows t.height.levels ss) = c.seed_rows.ensures.made ∙ ap (map (seeded e t.root t.height.levels)) rows in
-    let some = some-rows words t.height.levels ss room any c.if-spans-gt16.false c.in_ok-check_spans.ensures in
-    record {
-      sized = c.seed_rows.ensures.long;
-      some = omega (arith, ap length rows);
-      fits = c.as_slice-nodes.ensures.few;
-      sound = made_sound words t.height.levels ss room any c.if-spans-gt16.false c.in_ok-check_spans.ensures e t.root (length nodes) c.seed_rows.new.rows made;
-      clear = c.seed_rows.ensures.clear;
-    }
+    let some : 0 < length ss = grind (arith, nat_tests) in
+    some-rows (length c.args.scratch.now) t.height.levels ss (c.in-Some.ensures.variant.0 refl) some c.if-spans-gt16.false c.in_ok-check_spans.ensures _ (c.as_slice-nodes.ensures.nodes ∙ c.in_ok-list.ensures)
+
+pub invariant_of-grant-clause-sound : goal.invariant_of-grant-clause-sound
+invariant_of-grant-clause-sound g c =
+    let t = c.args.tree.now in
+    let ss = c.args.spans.now in
+    let some : 0 < length ss = grind (arith, nat_tests) in
+    made_sound (length c.args.scratch.now) t.height.levels ss (c.in-Some.ensures.variant.0 refl) some c.if-spans-gt16.false c.in_ok-check_spans.ensures _ (c.as_slice-nodes.ensures.nodes ∙ c.in_ok-list.ensures)
+    g.C.Cipher.encrypted t.root _ c.seed_rows.new.rows c.seed_rows.ensures.made
 
 pub returns : goal.returns
 returns g c =
     let t = c.args.tree.now in
     let ss = c.args.spans.now in
-    let e = g.C.Cipher.encrypted in
-    let nodes = c.as_slice-nodes.result.now in
-    let rows : nodes ≡ spans_rows t.height.levels ss = c.as_slice-nodes.ensures.nodes ∙ c.in_ok-list.ensures in
-    let few : length nodes ≤ 128 = c.as_slice-nodes.ensures.few in
-    let made : take (length nodes) c.seed_rows.new.rows ≡ map (seeded e t.root t.height.levels) (spans_rows t.height.levels ss) = c.seed_rows.ensures.made ∙ ap (map (seeded e t.root t.height.levels)) rows in
-    accepted (length c.args.scratch.now) t.height.levels ss (c.in-Some.ensures.variant.0 refl) (some_spans ss c.is_empty.result c.is_empty.ensures c.if-is_empty.false) c.if-spans-gt16.false c.in_ok-check_spans.ensures e t.root (length nodes) c.seed_rows.new.rows made c.args.grant.now _ refl refl (omega (arith, ap length rows))
+    let some : 0 < length ss = grind (arith, nat_tests) in
+    accepted (length c.args.scratch.now) t.height.levels ss (c.in-Some.ensures.variant.0 refl) some c.if-spans-gt16.false c.in_ok-check_spans.ensures _ (c.as_slice-nodes.ensures.nodes ∙ c.in_ok-list.ensures)
+    g.C.Cipher.encrypted t.root _ c.seed_rows.new.rows c.seed_rows.ensures.made c.args.grant.now _ refl refl c.as_slice-nodes.ensures.few
