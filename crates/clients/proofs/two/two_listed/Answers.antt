@@ -1,5 +1,4 @@
-use Rattle.std.proofs.Common.{length, ap, arith}
-use Rattle.clients.proofs.Twice.{listed}
+use Rattle.std.proofs.Common.{ap, arith}
 use Rattle.clients.proofs.two.two_listed.Goals as goal
 
 pub returns-clause-plainly : goal.returns-clause-plainly

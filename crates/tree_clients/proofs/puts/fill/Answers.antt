@@ -1,13 +1,9 @@
-use Rattle.std.proofs.Common.{◌≡◌, ◌-◌, ◌<◌, ◌≤◌, length, take, drop, sym, ap, ◌∙◌, subst, ⊎_elim, arith, length-take, rules}
+use Rattle.std.proofs.Common.{◌≡◌, ◌<◌, ◌≤◌, length, drop, sym, ap, ◌∙◌, subst, ⊎_elim, rules}
 use Rattle.std.proofs.lemmas.Bool.{cases_lt}
-use Rattle.std.proofs.lemmas.List.{take_min}
-use Rattle.tree_store.specs.Cells.{Holds}
-use Rattle.tree_store.specs.Plans.{places}
-use Rattle.tree_store.specs.Trees.{tree}
 use Rattle.tree_store.proofs.Shapes.{plan_cells}
-use Rattle.tree_clients.specs.Puts.{filled, top}
+use Rattle.tree_clients.specs.Puts.{top}
 use Rattle.tree_clients.proofs.Planned.{short, begun-enough, begun-short}
-use Rattle.tree_clients.proofs.Putting.{holds_by, cleared-beyond}
+use Rattle.tree_clients.proofs.Putting.{cleared-beyond}
 use Rattle.tree_clients.proofs.puts.fill.Goals as goal
 
 pub returns-clause-beyond : goal.returns-clause-beyond

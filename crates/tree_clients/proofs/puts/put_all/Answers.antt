@@ -1,5 +1,5 @@
-use Rattle.std.proofs.Common.{List, take, refl, subst, arith, take_all, rules}
-use Rattle.tree_clients.proofs.Putting.{Filling, filling-none, filling-next}
+use Rattle.std.proofs.Common.{take, refl, arith, rules}
+use Rattle.tree_clients.proofs.Putting.{filling-next}
 use Rattle.tree_clients.proofs.puts.put_all.Goals as goal
 
 pub loop-figure-preserved : goal.loop-figure-preserved
