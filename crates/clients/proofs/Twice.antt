@@ -1,14 +1,12 @@
 -- What follows, for two appends and an open, from the laws of each. Assumes nothing.
-use Rattle.std.proofs.Common.{◌≡◌, ℕ, ◌<◌, ◌≤◌, min, true, leb, ◌↔◌, List, [], ◌∷◌, length, is_some, is_ok, Some, None, Ok, Result, sym, ap, ◌∙◌, inl, inr, arith}
-use Rattle.std.proofs.lemmas.Bool.{false≢true, not-false, leb-false, cases_lt}
+use Rattle.std.proofs.Common.{◌≡◌, ℕ, ◌≤◌, true, leb, [], ◌∷◌, is_ok, Some, None, Ok, Result, sym, ap, ◌∙◌, arith}
+use Rattle.std.proofs.lemmas.Bool.{not-false, leb-false}
 use Rattle.refusal.specs.Judged.{Rules, first}
 use Rattle.refusal.specs.declared.Refusal.{Refusal}
 use Rattle.refusal.specs.declared.Refusal.TheVariants.{Full, NoKeyAfter}
 use Rattle.refusal.proofs.Judging.{answered, clear, first_passes}
 use Rattle.group.specs.Kind.{Kind}
 use Rattle.group.proofs.Algebra.{unit-right}
-use Rattle.store.specs.Contents.{nth}
-use Rattle.store.proofs.Rows.{nth-within, nth_past}
 use Rattle.source.specs.Sources.{Keys, Has, Agree, lacks}
 use Rattle.sealing.specs.Calls.{append_rules}
 use Rattle.sealing.specs.History.{AppendLaw, OpenLaw}
@@ -43,18 +41,3 @@ module _ {G V : Type 0} (k : Kind G V) (keys : Keys G) (places : ℕ) (x y : G) 
         refuses = (answered answer).0 ok ∙ sym none;
         figure = λ v is. law.figure agree v is ∙ ap (k.sums.plus (k.value x)) (unit-right k.sums (k.value y));
       }
-
--- A list has key i exactly when it is longer than i.
-module _ {G : Type 0} (keys : List G) where
-  long-has : (i : ℕ) (x : G) → i < length keys → Has (nth keys) i
-  long-has i x h = ap is_some (nth-within keys i x h)
-
-  has-long : (i : ℕ) → Has (nth keys) i → i < length keys
-  has-long i has = elim (cases_lt i (length keys)) [ inl below ↦ below | inr past ↦ absurd (false≢true (sym (ap is_some (nth_past keys i past)) ∙ has)) ]
-
--- At a list of keys and a number of cells, two places and three keys are two cells and three figures.
-pub listed : {G V : Type 0} (k : Kind G V) (keys : List G) (cells : ℕ) {x y : G} {answer : Result G Refusal} → SumOfTwo k (nth keys) (min cells 1048576) x y answer → (is_ok answer ≡ true) ↔ ((2 ≤ cells) × (3 ≤ length keys))
-listed k keys cells {x} s = (
-  λ ok. let room = s.answered.0 ok in (omega (arith, room.0), has-long keys 2 room.3),
-  λ h. s.answered.1 (omega (arith, h.0), long-has keys 0 x (omega (arith, h.1)), long-has keys 1 x (omega (arith, h.1)), long-has keys 2 x (omega (arith, h.1))),
-)

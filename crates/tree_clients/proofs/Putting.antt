@@ -9,9 +9,8 @@ use Rattle.refusal.specs.declared.Refusal.TheVariants.{Full}
 use Rattle.group.specs.Kind.{Kind}
 use Rattle.store.specs.Contents.{Contents, push, put_rules}
 use Rattle.tree_store.specs.Levels.{level_start}
-use Rattle.tree_store.specs.Cells.{Entered, Holds, cleared}
+use Rattle.tree_store.specs.Cells.{cleared}
 use Rattle.tree_store.specs.Trees.{tree, Summed, with_figure}
-use Rattle.tree_store.specs.declared.shape.Shape.{Shape}
 use Rattle.tree_store.specs.declared.tree.TreeStore.{TreeStore}
 use Rattle.tree_store.proofs.Rising.{raised-beyond}
 use Rattle.tree_store.proofs.Shapes.{some_level}
@@ -59,15 +58,6 @@ module _ {G R : Type 0} (unit : R) (c s t : Contents G) (x : G) (r : Result R Re
       (λ (h : s.capacity ≤ length s.entries).
       leaves ∙ ap (λ q. left_by q s (push s x)) (put_full s unit r answers h) ∙ is ∙ filled-full c xs x (omega (arith, h, most, long)))
       (cases_lt (length s.entries) s.capacity)
-
-  pub put_next : (figures : List G) (i : ℕ) → s ≡ filled c (take i figures) → i < length figures → x ≡ get_or figures i x → t ≡ filled c (take (i + 1) figures)
-  put_next figures i is low read =
-      put_more (take i figures) is ∙ ap (filled c) (sym (take_more figures i x low ∙ (λ j. take i figures ++ (sym read j ∷ []))))
-
--- what is said of one shape, said of the same
-pub entered_by : {G V : Type 0} (kind : Kind G V) {s t : Shape} {n m : ℕ} (x : G) {before before' after : List G} → s ≡ t → n ≡ m → before ≡ before' → Entered kind s.fan_out s.capacity s.levels n x before after → Entered kind t.fan_out t.capacity t.levels m x before' after
-entered_by {G} kind x {after = after} shape at b e =
-    subst (λ (t : Shape × ℕ × List G). Entered kind t.0.fan_out t.0.capacity t.0.levels t.1 x t.2 after) (λ i. (shape i, at i, b i)) e
 
 -- from this tree to that, by putting the figures
 pub record Filling {G V : Type 0} (kind : Kind G V) (start : TreeStore G) (figures : List G) (s : TreeStore G) : Type 0 where
@@ -122,11 +112,6 @@ module _ {G V : Type 0} (kind : Kind G V) where
     pub filling-next : (figures : List G) (i : ℕ) → xs ≡ take i figures → i < length figures → x ≡ get_or figures i x → Filling kind start (take (i + 1) figures) t
     filling-next figures i is low read =
         subst (λ (ys : List G). Filling kind start ys t) (sym (take_more figures i x low ∙ (λ j. sym is j ++ (sym read j ∷ [])))) filling-more
-
--- what a sound tree holds, said of the same shape, figures and cells
-pub holds_by : {G V : Type 0} (kind : Kind G V) (s : TreeStore G) {shape : Shape} {row : List G} → s.shape ≡ shape → (tree s).entries ≡ row → Summed kind s → Holds kind shape.fan_out shape.capacity shape.levels row s.cells.now
-holds_by {G} kind s shape row sound =
-    subst (λ (t : Shape × List G). Holds kind t.0.fan_out t.0.capacity t.0.levels t.1 s.cells.now) (λ i. (shape i, row i)) sound
 
 pub cleared-beyond : {G : Type 0} (none : G) (count : ℕ) (cells : List G) → drop count (cleared none count cells) ≡ drop count cells
 cleared-beyond none count cells = drop_at (replicate count none) (drop count cells) count (length-replicate count none)

@@ -1,5 +1,5 @@
 -- Where a figure's cells are. Assumes nothing.
-use Rattle.std.proofs.Common.{◌≡◌, ℕ, zero, suc, ◌+◌, ◌-◌, ◌/◌, ◌^◌, ◌<◌, ◌≤◌, List, length, get_or, take, set, sym, ap, ◌∙◌, pow-suc, div-one, arith, length-set, length-take}
+use Rattle.std.proofs.Common.{◌≡◌, ℕ, zero, suc, ◌/◌, ◌^◌, ◌<◌, ◌≤◌, List, length, get_or, take, set, sym, ap, ◌∙◌, pow-suc, div-one, arith, length-set, length-take}
 use native.Mathlib.Nat.{div-div-eq-div-mul, pow-zero, one-le-pow}
 use Rattle.std.proofs.lemmas.List.{set-set, get_or_read}
 use Rattle.std.proofs.lemmas.Nat.{div_below}
@@ -64,10 +64,3 @@ module _ {G V : Type 0} (kind : Kind G V) (k most n : ℕ) (x : G) where
       let got : old ≡ get_or now i kind.zero = get_or_read now i old lt read kind.zero in
       let written : set now i new ≡ set now i (kind.plus (get_or now i kind.zero) x) = ap (set now i) (sum ∙ ap (λ o. kind.plus o x) got) in
       written ∙ ap (λ (c : List G). set c i (kind.plus (get_or c i kind.zero) x)) is ∙ ap (λ j. set (raised kind k most n x cells l) j (kind.plus (get_or (raised kind k most n x cells l) j kind.zero) x)) at
-
--- one level up, the figure's cell is among the cells
-pub up-within : (k most n l levels start width at count : ℕ) → start ≡ level_start k most l → width ≡ level_width k most l → at ≡ n / k ^ l → l < levels - 1 → 2 ≤ k → n < most → level_start k most levels ≤ count → start + width + at / k < count
-up-within k most n l levels start width at count s w a up h lt room =
-    let e : at / k ≡ n / k ^ suc l = ap (λ m. m / k) a ∙ next_up k n l in
-    let p = place-within k most n (suc l) levels (omega arith) lt (omega arith) in
-    omega arith

@@ -1,6 +1,6 @@
 -- Sums read from the cells of a tree. Assumes nothing.
-use Rattle.std.proofs.Common.{◌≡◌, ℕ, zero, suc, ◌+◌, ◌-◌, ◌*◌, ◌^◌, ◌<◌, ◌≤◌, min, Bool, true, false, List, [], ◌∷◌, ◌++◌, length, get_or, take, drop, sym, refl, ap, ◌∙◌, subst, mul-le-mul_right, mul_assoc, mul-one, add-one, arith, length-drop, length-take}
-use native.Mathlib.Nat.{pow-zero, pow-succ'}
+use Rattle.std.proofs.Common.{◌≡◌, ℕ, zero, suc, ◌+◌, ◌-◌, ◌*◌, ◌^◌, ◌<◌, ◌≤◌, min, Bool, true, false, List, [], ◌∷◌, ◌++◌, length, get_or, take, drop, sym, refl, ap, ◌∙◌, subst, mul-le-mul_right, mul_assoc, add-one, arith, length-drop, length-take}
+use native.Mathlib.Nat.{pow-succ'}
 use Rattle.std.proofs.lemmas.List.{take_more, get_or-drop}
 use Rattle.group.specs.Kind.{Kind, sum}
 use Rattle.group.proofs.Algebra.{unit-right}
@@ -71,6 +71,8 @@ pub record Reads {G V : Type 0} (kind : Kind G V) (k most levels n a b : ℕ) (w
   pub width_is : width ≡ level_width k most l
   pub ordered : from ≤ to
   pub within : to ≤ width
+  pub narrow : width ≤ 1048576
+  pub room : l < levels → start + width ≤ length cells
   pub ended : whole ≡ true → n ≤ to * k ^ l
   pub left : Sound kind k most levels n cells → kind.sums.plus (kind.value total) (sum kind (between (from * k ^ l) (to * k ^ l) (take n cells))) ≡ sum kind (between a b (take n cells))
 
@@ -80,18 +82,6 @@ module _ {G V : Type 0} (kind : Kind G V) (k most levels n : ℕ) (cells : List 
 
   abbrev over : ℕ → ℕ → V
   over x y = sum kind (between x y (take n cells))
-
-  pub reads_first : (total : G) → total ≡ kind.zero → a ≤ b → b ≤ n → (whole ≡ true → b ≡ n) → Reads kind k most levels n a b whole cells 0 0 most a b total
-  reads_first total is ord fits end =
-      let one : (c : ℕ) → c * k ^ 0 ≡ c = λ c. ap (λ p. c * p) (pow-zero k) ∙ mul-one c in
-      record {
-        start_is = refl;
-        width_is = refl;
-        ordered = ord;
-        within = omega (arith, t.within);
-        ended = λ e. omega (arith, one b, end e);
-        left = λ s. ap (λ x. add (kind.value x) (over (a * k ^ 0) (b * k ^ 0))) is ∙ ap (λ v. add v (over (a * k ^ 0) (b * k ^ 0))) kind.zero_counts ∙ kind.sums.unit _ ∙ (λ i. over (one a i) (one b i));
-      }
 
   -- what the cells outside those one level up hold, and those one level up
   split_up : (l from to first last : ℕ) → (whole ≡ true → n ≤ to * k ^ l) → Above k from to first last whole → first ≤ last → (w : Bool) → w ≡ whole → over (from * k ^ l) (to * k ^ l) ≡ add (add (over (from * k ^ l) (first * k * k ^ l)) (over (min to (last * k) * k ^ l) (to * k ^ l))) (over (first * k ^ suc l) (last * k ^ suc l))
@@ -134,6 +124,8 @@ module _ {G V : Type 0} (kind : Kind G V) (k most levels n : ℕ) (cells : List 
         width_is = ap (covering k) r.width_is;
         ordered = omega arith;
         within = let c = covering_mono k to width (omega (arith, t.fanned.0)) r.within in omega (arith, u.cover);
+        narrow = let w = width_most k most t.fanned.0 (suc l) in let e = ap (covering k) r.width_is in omega (arith, t.sized);
+        room = λ low. let e = ends-before k most (suc l) levels low in let wide = ap (covering k) r.width_is in omega (arith, t.room, r.start_is, r.width_is);
         ended = λ e. let p = mul-le-mul_right K (u.past e) in omega (arith, r.ended e, up k last l);
         left = λ s.
             let is-A : kind.value before ≡ A = be ∙ level-sum kind k most levels n cells t.room s l start from (first * k) r.start_is (omega arith) u.reach (omega (arith, u.inner)) in
@@ -157,21 +149,3 @@ module _ {G V : Type 0} (kind : Kind G V) (k most levels n : ℕ) (cells : List 
       ap kind.value end ∙ kind.plus_counts total rest
       ∙ ap (add (kind.value total)) (is ∙ level-sum kind k most levels n cells t.room s l start from to r.start_is low r.ordered (omega (arith, r.within, r.width_is)))
       ∙ r.left s
-
--- where reading can be
-pub record Bounds (start width to count : ℕ) : Type 0 where
-  pub few : to ≤ 1048576
-  pub narrow : width ≤ 1048576
-  pub near : start + to ≤ count
-  pub room : start + width ≤ count
-
-pub bounds : {G V : Type 0} {kind : Kind G V} {k most levels n a b : ℕ} {whole : Bool} {cells : List G} {l start width from to : ℕ} {total : G} → Stands k most levels n (length cells) → Reads kind k most levels n a b whole cells l start width from to total → l < levels → Bounds start width to (length cells)
-bounds {k = k} {most = most} {levels = levels} {l = l} t r low =
-    let w = width_most k most t.fanned.0 l in
-    let e = ends-before k most l levels low in
-    record {
-      few = omega (arith, t.sized, r.within, r.width_is);
-      narrow = omega (arith, t.sized, r.width_is);
-      near = omega (arith, t.room, r.within, r.width_is, r.start_is);
-      room = omega (arith, t.room, r.width_is, r.start_is);
-    }

@@ -7,7 +7,7 @@ use Rattle.group.specs.Kind.{Kind, sum}
 use Rattle.tree_store.specs.Levels.{level_start}
 use Rattle.tree_store.specs.Cells.{cleared}
 use Rattle.tree_store.specs.declared.planning.Plan.{Plan}
-use Rattle.tree_store.proofs.Widths.{ends-before, width_most}
+use Rattle.tree_store.proofs.Widths.{ends-before}
 use Rattle.tree_store.proofs.Parts.{between-beyond}
 use Rattle.tree_store.proofs.Places.{Sound}
 use Rattle.tree_store.proofs.Shapes.{plan_cells}

@@ -1,9 +1,5 @@
-use Rattle.std.proofs.Common.{length, ap, arith}
-use Rattle.clients.proofs.Twice.{listed}
+use Rattle.std.proofs.Common.{ap, arith}
 use Rattle.clients.proofs.two.two_listed.Goals as goal
-
-pub returns-clause-answered : goal.returns-clause-answered
-returns-clause-answered g c = listed g.G.Group.kind c.args.keys.now (length c.args.cells.now) c.two_flat.ensures.sums
 
 pub returns-clause-plainly : goal.returns-clause-plainly
 returns-clause-plainly g c = record {

@@ -1,45 +1,26 @@
-use Rattle.std.proofs.Common.{◌≡◌, ◌-◌, ◌<◌, ◌≤◌, length, take, drop, sym, ap, ◌∙◌, subst, ⊎_elim, arith, length-take, rules}
+use Rattle.std.proofs.Common.{◌≡◌, ◌<◌, ◌≤◌, length, drop, sym, ap, ◌∙◌, subst, ⊎_elim, rules}
 use Rattle.std.proofs.lemmas.Bool.{cases_lt}
-use Rattle.std.proofs.lemmas.List.{take_min}
-use Rattle.tree_store.specs.Cells.{Holds}
-use Rattle.tree_store.specs.Plans.{places}
-use Rattle.tree_store.specs.Trees.{tree}
 use Rattle.tree_store.proofs.Shapes.{plan_cells}
-use Rattle.tree_clients.specs.Puts.{filled, top}
+use Rattle.tree_clients.specs.Puts.{top}
 use Rattle.tree_clients.proofs.Planned.{short, begun-enough, begun-short}
-use Rattle.tree_clients.proofs.Putting.{holds_by, cleared-beyond}
+use Rattle.tree_clients.proofs.Putting.{cleared-beyond}
 use Rattle.tree_clients.proofs.puts.fill.Goals as goal
 
-pub returns : goal.returns
-returns g c =
+pub returns-clause-beyond : goal.returns-clause-beyond
+returns-clause-beyond g c =
     let kind = g.G.Group.kind in
     let p = c.args.plan in
     let cells = c.args.cells.now in
-    let figures = c.args.figures.now in
-    let capacity = places p (length cells) in
     let s0 = c.new-store.result in
     let s1 = c.put_all.new.store in
     let new = c.new-store.ensures in
     let all = c.put_all.ensures in
-    let place = all.place ∙ new.place in
-    let whole : capacity - 0 ≡ capacity = omega arith in
-    let row : (tree s1).entries ≡ take capacity figures = ap (λ t. t.entries) (all.leaves ∙ ap (λ t. filled t figures) new.begins) ∙ ap (λ m. take m figures) whole in
-    let count = c.len.ensures.is ∙ ap length row ∙ length-take capacity figures in
-    let untouched : length cells < p.cells → s1.cells.now ≡ cells = λ few.
-    all.spares (ap (λ t. t.capacity) new.begins ∙ short p (length cells) few) ∙ new.touches ∙ begun-short p kind.zero cells few in
     let beyond : drop p.cells s1.cells.now ≡ drop p.cells cells =
     ⊎_elim
-    (λ (few : length cells < p.cells). ap (drop p.cells) (untouched few))
+    (λ (few : length cells < p.cells). ap (drop p.cells) (all.spares (ap (λ t. t.capacity) new.begins ∙ short p (length cells) few) ∙ new.touches ∙ begun-short p kind.zero cells few))
     (λ (fits : p.cells ≤ length cells).
     let ends : top s0.shape ≡ p.cells = ap top (new.shape fits) ∙ sym (plan_cells p) in
     subst (λ m. drop m s1.cells.now ≡ drop m s0.cells.now) ends all.beyond
     ∙ ap (drop p.cells) (new.touches ∙ begun-enough p kind.zero cells fits) ∙ cleared-beyond kind.zero p.cells cells)
     (cases_lt (length cells) p.cells) in
-    record {
-      count = count;
-      holds = λ fits.
-          subst (Holds kind p.shape.fan_out p.shape.capacity p.shape.levels _) (search rules)
-          (holds_by kind s1 (all.shape ∙ new.shape fits) (row ∙ sym (take_min capacity figures) ∙ ap (λ n. take n figures) (sym count)) (all.keeps new.sound));
-      beyond = search rules;
-      spares = λ few. let same = untouched few in search rules;
-    }
+    search rules

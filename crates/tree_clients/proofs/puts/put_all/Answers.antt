@@ -1,9 +1,6 @@
-use Rattle.std.proofs.Common.{List, take, refl, subst, arith, take_all, rules}
-use Rattle.tree_clients.proofs.Putting.{Filling, filling-none, filling-next}
+use Rattle.std.proofs.Common.{take, refl, arith, rules}
+use Rattle.tree_clients.proofs.Putting.{filling-next}
 use Rattle.tree_clients.proofs.puts.put_all.Goals as goal
-
-pub loop-figure-init : goal.loop-figure-init
-loop-figure-init g c = (omega arith, filling-none g.G.Group.kind c.args.store.now)
 
 pub loop-figure-preserved : goal.loop-figure-preserved
 loop-figure-preserved g c =
@@ -15,8 +12,3 @@ loop-figure-preserved g c =
       omega arith,
       filling-next kind tt c.args.store.now c.loop-figure.store last (take i figures) _ c.put.result c.loop-figure.invariant.1 h.answers h.leaves h.spares h.keeps h.writes h.place h.shape figures i refl c.loop-figure-test.true (search rules),
     )
-
-pub returns : goal.returns
-returns g c =
-    let f = subst (λ (xs : List _). Filling g.G.Group.kind c.args.store.now xs c.loop-figure.store) (take_all _ _ c.loop-figure-test.false) c.loop-figure.invariant.1 in
-    record { leaves = f.leaves; keeps = f.keeps; shape = f.shape; place = f.place; beyond = f.beyond; spares = f.spares }

@@ -1,14 +1,10 @@
 use Rattle.std.proofs.Common.{add-one, arith}
 use Rattle.std.proofs.lemmas.Bool.Decides.{nat_tests}
-use Rattle.tree_store.proofs.Widths.{covering-less}
 use Rattle.tree_store.proofs.Climbs.{climb-first, climb-more, climb_last, climb-cells}
 use Rattle.tree_store.proofs.planning.Plan.new.Goals as goal
 
 pub loop-width-init : goal.loop-width-init
 loop-width-init c = (c.if-fan_out-lt2.false, climb-first c.args.fan_out c.args.capacity c.if-capacity-lt1.false c.if-capacity-gt-MAX_CAPACITY.false)
-
-pub loop-width-smaller : goal.loop-width-smaller
-loop-width-smaller c = rw c.div_ceil-width.ensures (covering-less c.args.fan_out c.loop-width.width c.loop-width.invariant.0 c.loop-width-test.true)
 
 pub loop-width-preserved : goal.loop-width-preserved
 loop-width-preserved c =
@@ -27,11 +23,3 @@ invariant_of-shape c =
 
 pub invariant_of-result : goal.invariant_of-result
 invariant_of-result c = record { some = c.if-capacity-lt1.false; counted = climb-cells c.loop-width.invariant.1 c.loop-width-test.false }
-
-pub returns-clause-refuses : goal.returns-clause-refuses
-returns-clause-refuses c =
-    let e = climb-cells c.loop-width.invariant.1 c.loop-width-test.false in
-    grind (arith, nat_tests)
-
-pub returns-clause-plans : goal.returns-clause-plans
-returns-clause-plans c = λ p is. let e = climb-cells c.loop-width.invariant.1 c.loop-width-test.false in cc

@@ -1,9 +1,10 @@
 use Rattle.std.proofs.Common.{◌≡◌, ◌*◌, ◌/◌, ◌≤◌, cond, eqb, eq-eqb, sym, ◌∙◌, arith, rules}
-use Rattle.std.proofs.lemmas.Bool.{eqb-true, ne_eqb, cond-true, cond-false}
+use Rattle.std.proofs.lemmas.Bool.{ne_eqb, cond-true, cond-false}
+use Rattle.std.proofs.lemmas.Grind.{common_steps}
 use Rattle.tree_store.specs.Levels.{covering}
 use Rattle.tree_store.proofs.Above.{Above, above}
-use Rattle.tree_store.proofs.Shapes.{stands, some_level}
-use Rattle.tree_store.proofs.Reading.{bounds, reads_first, reads_on, reads_last}
+use Rattle.tree_store.proofs.Shapes.{stands, some_level, places_room}
+use Rattle.tree_store.proofs.Reading.{reads_on, reads_last}
 use Rattle.tree_store.proofs.tree.TreeStore.sum_between.Given as given
 use Rattle.tree_store.proofs.tree.TreeStore.sum_between.Goals as goal
 use Rattle.tree_store.proofs.tree.TreeStore.sum_between.Goals.{Else-first-last, then-whole, else-whole}
@@ -25,39 +26,23 @@ pub overflow_sub-level-end : goal.overflow_sub-level-end
 overflow_sub-level-end g c = some_level c.args.self.now
 
 pub loop-level-init : goal.loop-level-init
-loop-level-init g c =
-    reads_first g.G.Group.kind c.args.self.now.shape.fan_out c.args.self.now.shape.capacity c.args.self.now.shape.levels c.args.self.now.used c.args.self.now.cells.now (stands c.args.self.now) c.args.a c.args.b (eqb c.args.b c.args.self.now.used)
-    c.identity-total.result c.identity-total.ensures c.requires.ordered c.requires.within (eqb-true c.args.b c.args.self.now.used)
+loop-level-init g c = let places = places_room c.args.self.now in grind (arith, common_steps)
 
 pub overflow_mul-first : goal.overflow_mul-first
 overflow_mul-first g c =
     let u = over g (goal.at.overflow_mul-first g c).Else-first-last in
-    let w = bounds (stands c.args.self.now) c.loop-level.invariant (omega arith) in
-    let h : c.above-first.result * c.args.self.now.shape.fan_out ≤ 1048576 = omega (arith, u.inner, w.few) in
+    let h : c.above-first.result * c.args.self.now.shape.fan_out ≤ 1048576 = omega (arith, u.inner) in
     search rules
 
 pub read-before-requires : goal.read-before-requires
 read-before-requires g c =
     let u = over g (goal.at.read-before-requires g c).Else-first-last in
-    let w = bounds (stands c.args.self.now) c.loop-level.invariant (omega arith) in
-    record { ordered = u.reach; within = omega (arith, u.inner, w.near) }
+    record { ordered = u.reach; within = omega (arith, u.inner) }
 
 pub overflow_mul-last : goal.overflow_mul-last
 overflow_mul-last g c =
     let u = over g (goal.at.overflow_mul-last g c).Else-first-last in
-    let w = bounds (stands c.args.self.now) c.loop-level.invariant (omega arith) in
-    let h : c.if-whole.last * c.args.self.now.shape.fan_out ≤ 1048640 = omega (arith, u.near, w.few, c.args.self.now.shape.fanned.1) in
-    search rules
-
-pub read-after-requires : goal.read-after-requires
-read-after-requires g c =
-    let w = bounds (stands c.args.self.now) c.loop-level.invariant (omega arith) in
-    record { ordered = omega (arith, c.min.ensures); within = w.near }
-
-pub overflow_add-start : goal.overflow_add-start
-overflow_add-start g c =
-    let w = bounds (stands c.args.self.now) c.loop-level.invariant (omega arith) in
-    let h = w.room in
+    let h : c.if-whole.last * c.args.self.now.shape.fan_out ≤ 1048640 = omega (arith, u.near, c.args.self.now.shape.fanned.1) in
     search rules
 
 pub loop-level-preserved : goal.loop-level-preserved
@@ -67,11 +52,8 @@ loop-level-preserved g c =
     c.read-before.result c.read-after.result c.add.result c.add-total.result
     c.loop-level.invariant (omega arith) c.if-first-last.false (over g (goal.at.loop-level-preserved g c).Else-first-last) c.min.ensures c.above-width.ensures c.read-before.ensures c.read-after.ensures c.add.ensures c.add-total.ensures
 
-pub read-requires : goal.read-requires
-read-requires g c =
-    let some = some_level c.args.self.now in
-    let w = bounds (stands c.args.self.now) c.loop-level.invariant (omega arith) in
-    record { ordered = c.loop-level.invariant.ordered; within = w.near }
+pub read-requires-clause-within : goal.read-requires-clause-within
+read-requires-clause-within g c = omega (arith, some_level c.args.self.now)
 
 pub returns : goal.returns
 returns g c =

@@ -1,5 +1,5 @@
-use Rattle.std.proofs.Common.{◌+◌, ◌-◌, take, sym, ap, ◌∙◌, subst}
-use Rattle.tree_store.specs.Cells.{Entered, raised}
+use Rattle.std.proofs.Common.{◌+◌, take, sym, ◌∙◌, subst}
+use Rattle.tree_store.specs.Cells.{Entered}
 use Rattle.tree_store.specs.declared.shape.Shape.{Shape}
 use Rattle.tree_store.proofs.Places.{Sound}
 use Rattle.tree_store.proofs.Shapes.{stands, used_long}
@@ -23,11 +23,6 @@ returns-clause-keeps g c = λ sound.
     let put = sound_put kind k s.shape.capacity s.shape.levels s.used s.cells.now c.args.figure (stands s) c.if-self.false sound in
     subst (λ (p : Shape). Sound kind p.fan_out p.capacity p.levels (t.used + 1) t.cells.now) (sym h.shape)
     (subst (λ u. Sound kind k s.shape.capacity s.shape.levels (u + 1) t.cells.now) (sym h.used) (subst (Sound kind k s.shape.capacity s.shape.levels (s.used + 1)) (sym h.writes) put))
-
-pub returns-clause-writes : goal.returns-clause-writes
-returns-clause-writes g c =
-    let s = c.args.self.now in
-    c.raise.ensures.writes ∙ ap (λ n. raised g.G.Group.kind s.shape.fan_out s.shape.capacity n c.args.figure s.cells.now (s.shape.levels - 1)) (used_long s)
 
 pub returns-clause-enters : goal.returns-clause-enters
 returns-clause-enters g c = λ e.
