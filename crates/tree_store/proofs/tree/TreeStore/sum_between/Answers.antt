@@ -34,10 +34,8 @@ overflow_mul-first g c =
     let h : c.above-first.result * c.args.self.now.shape.fan_out ≤ 1048576 = omega (arith, u.inner) in
     search rules
 
-pub read-before-requires : goal.read-before-requires
-read-before-requires g c =
-    let u = over g (goal.at.read-before-requires g c).Else-first-last in
-    record { ordered = u.reach; within = omega (arith, u.inner) }
+pub read-before-requires-clause-within : goal.read-before-requires-clause-within
+read-before-requires-clause-within g c = omega (arith, (over g (goal.at.read-before-requires-clause-within g c).Else-first-last).inner)
 
 pub overflow_mul-last : goal.overflow_mul-last
 overflow_mul-last g c =
