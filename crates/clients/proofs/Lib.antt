@@ -1,2 +1,1 @@
 pub mod Twice
-pub mod TwiceCells

@@ -1,7 +1,6 @@
 -- Puts into a tree, one after another. Assumes nothing.
-use Rattle.std.proofs.Common.{◌≡◌, ℕ, suc, ◌+◌, ◌-◌, ◌<◌, ◌≤◌, false, List, [], ◌∷◌, ◌++◌, length, get_or, take, drop, replicate, is_ok, Ok, Err, Result, sym, refl, ap, ◌∙◌, subst, ⊎_elim, arith, length-take}
-use Rattle.std.proofs.Math.Seq.{take-nil}
-use Rattle.std.proofs.lemmas.List.{append-nil, append_assoc, take_all, take_more, take-append-le, drop_at, length_push, length-append, length-replicate}
+use Rattle.std.proofs.Common.{◌≡◌, ℕ, suc, ◌+◌, ◌-◌, ◌<◌, ◌≤◌, false, List, [], ◌∷◌, ◌++◌, length, get_or, take, drop, replicate, is_ok, Ok, Err, Result, sym, ap, ◌∙◌, subst, ⊎_elim, arith, length-take}
+use Rattle.std.proofs.lemmas.List.{append_assoc, take_all, take_more, take-append-le, drop_at, length_push, length-append, length-replicate}
 use Rattle.std.proofs.lemmas.Bool.{le-leb, lt-leb, cond-true, cond-false, cases_lt}
 use Rattle.refusal.specs.Judged.{judged, left_by}
 use Rattle.refusal.specs.declared.Refusal.{Refusal}
@@ -23,9 +22,6 @@ module _ {G R : Type 0} (c : Contents G) (x : R) (r : Result R Refusal) (answers
 
   pub put_full : c.capacity ≤ length c.entries → r ≡ Err Full
   put_full h = answers ∙ cond-true _ _ _ (le-leb c.capacity (length c.entries) h)
-
-pub filled_none : {G : Type 0} (c : Contents G) → c ≡ filled c []
-filled_none c = λ i. record { entries = (sym (append-nil c.entries) ∙ ap (λ xs. c.entries ++ xs) (sym (take-nil (c.capacity - length c.entries)))) i; capacity = c.capacity }
 
 -- one figure more, where there is a place and where there is none
 pub filled-free : {G : Type 0} (c : Contents G) (xs : List G) (x : G) → length (filled c xs).entries < c.capacity → push (filled c xs) x ≡ filled c (xs ++ (x ∷ []))
@@ -69,9 +65,6 @@ pub record Filling {G V : Type 0} (kind : Kind G V) (start : TreeStore G) (figur
   pub spares : (tree start).capacity ≡ 0 → s.cells.now ≡ start.cells.now
 
 module _ {G V : Type 0} (kind : Kind G V) where
-  pub filling-none : (s : TreeStore G) → Filling kind s [] s
-  filling-none s = record { leaves = filled_none (tree s); keeps = λ sound. sound; shape = refl; place = refl; beyond = refl; spares = λ e. refl }
-
   -- past the cells of all levels a put changes nothing
   put_beyond : (s : TreeStore G) (x : G) → length (tree s).entries < (tree s).capacity → drop (top s.shape) (with_figure kind s x) ≡ drop (top s.shape) s.cells.now
   put_beyond s x h =
