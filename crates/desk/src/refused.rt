@@ -30,22 +30,18 @@ fn appends(rt: &HostRuntime, keys: &[Count; 3], line: Count) -> anyhow::Result<(
         one.append(&mut store, line),
     )?;
     let all = Running::new(KeyList { keys });
-    for what in [
-        "a line with a place and both keys",
-        "a second line in one cell",
-    ] {
-        say_answer(rt, what, all.append(&mut store, line))?;
-    }
-    Ok(())
+    let first = all.append(&mut store, line);
+    say_answer(rt, "a line with a place and both keys", first)?;
+    let second = all.append(&mut store, line);
+    say_answer(rt, "a second line in one cell", second)
 }
 
 fn opens(rt: &HostRuntime, keys: &[Count; 3], line: Count) -> anyhow::Result<()> {
     let mut cells = [Count::identity(); 2];
     let mut store = FlatStore::new(&mut cells);
     let epoch = Running::new(KeyList { keys });
-    for what in ["line 0", "line 1"] {
-        say_answer(rt, what, epoch.append(&mut store, line))?;
-    }
+    say_answer(rt, "line 0", epoch.append(&mut store, line))?;
+    say_answer(rt, "line 1", epoch.append(&mut store, line))?;
     let reader = KeyPair {
         from: 0,
         before: keys[0],
