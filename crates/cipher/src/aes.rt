@@ -46,8 +46,8 @@ impl From<Words> for Block {
     #[tactic(auto, using(crate::proofs::Bridge::columns), unfolding(crate::specs::Aes::block_of_state))]
     fn from(s: Words) -> Block {
         Block {
-            high: s.c0 as u64 * 0x1_0000_0000 + s.c1 as u64,
-            low: s.c2 as u64 * 0x1_0000_0000 + s.c3 as u64,
+            high: u64::from(s.c0) * 0x1_0000_0000 + u64::from(s.c1),
+            low: u64::from(s.c2) * 0x1_0000_0000 + u64::from(s.c3),
         }
     }
 }

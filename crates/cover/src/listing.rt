@@ -6,7 +6,7 @@ use arrayvec::ArrayVec;
 
 mod filling;
 
-// The nodes lie in the list itself.
+// The nodes lie in the list itself, as an `ArrayVec` keeps its items, so nothing is allocated.
 #[derive(Drop)]
 pub struct NodeList {
     nodes: ArrayVec<Node, 128>,

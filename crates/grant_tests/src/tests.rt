@@ -1,4 +1,5 @@
-// Covers, refusals, scratch and keys of worked grants, at both ciphers.
+// Covers, refusals, scratch and keys of worked grants, at both ciphers. Refusals are compared by the
+// numbers that the documents give.
 use Undone::{NotWiped, Refused};
 use cipher::{Aes128, Block, Cipher, Speck128};
 use cover::Span;

@@ -47,6 +47,7 @@ fn read_decimal(s: &[u8]) -> Option<u64>
     if let [] | [b'0', _, ..] = s {
         return None;
     }
+    // By a `for`: what the library's `try_fold` gives over a list is not known to the check.
     let mut n = 0;
     for b in s {
         n = push_digit(n, *b)?;

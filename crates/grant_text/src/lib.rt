@@ -1,4 +1,4 @@
-// The text of a grant: written, read, and looked into by key number.
+// The text of a grant, begun: its columns, its heading and its rows.
 #![tactic(auto)]
 
 mod columns;

@@ -4,7 +4,8 @@ ghost use Rattle.group.specs.Kind.{sum};
 
 use crate::Group;
 
-// The figures of the slice, added up. No figures add up to zero.
+// The figures of the slice, added up. No figures add up to zero. By a `for`: of the library's `fold` over a trait's sum the check
+// proves nothing.
 pub fn fold<G: Group>(figures: &[G]) -> G
     ensures { G.kind.value result ≡ sum G.kind figures.now }
 {

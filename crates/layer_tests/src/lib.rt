@@ -1,4 +1,5 @@
-// Worked cases of joint and coarse sources, run.
+// Worked cases of joint and coarse sources, run. Refusals are compared by the
+// numbers that the documents give.
 #![tactic(auto)]
 
 ghost use Rattle.std.specs.Prelude.{◌≡◌, length};

@@ -9,7 +9,8 @@ use refusal::Refusal;
 use source::KeySource;
 use store::Store;
 
-// The ciphertext of a line between two keys, made in one place, so that a wrong sign fails as a fact here.
+// The ciphertext of a line between two keys, made in one place, so that a wrong sign fails as a fact here. They are two arguments,
+// since each key has a refusal of its own.
 fn sealed<G: Group>(line: G, before: G, after: G) -> G
     ensures { result ≡ G.Group.kind.plus (G.Group.kind.plus line before) (G.Group.kind.minus after) }
 {

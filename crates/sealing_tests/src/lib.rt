@@ -1,4 +1,5 @@
-// The worked figures of sealing, run: counts, flags, parcels, refusals in their order, and doubles.
+// The worked figures of sealing, run: counts, flags, parcels, refusals in their order, and doubles. Refusals are compared by the
+// numbers that the documents give.
 #![tactic(auto)]
 
 #[cfg(test)]

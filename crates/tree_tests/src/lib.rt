@@ -1,4 +1,5 @@
-// Tree stores at work: plans, what cells hold, refusals, all three kinds of figures.
+// Tree stores at work: plans, what cells hold, refusals, all three kinds of figures. Refusals are compared by the
+// numbers that the documents give.
 #![tactic(auto)]
 
 #[cfg(test)]

@@ -55,6 +55,7 @@ fn narrow_with<C: Cipher>(
 ) -> Result<(), Refusal>
     ensures { Narrows C.encrypted span (length scratch.old) grant.old result grant.new }
 {
+    // By `let .. else`, as in an issue.
     let Some(path) = scratch.first_chunk_mut::<66>() else {
         return Err(Refusal::ShortScratch);
     };

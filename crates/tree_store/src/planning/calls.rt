@@ -24,7 +24,7 @@ impl Plan {
         if capacity < 1 || capacity > MAX_CAPACITY {
             return Err(Refusal::Capacity);
         }
-        // As many turns as the tree has levels, which are counted here.
+        // As many turns as there are levels above the lowest, which the loop finds out.
         let mut top = 0;
         let mut width = capacity;
         let mut needed = capacity;
