@@ -37,6 +37,10 @@ cut_rules n rows = (not (placed n), RowPlace) ∷ (nat_lt 128 rows, TooManyRows)
 abbrev pub Adds : Result (Unit {0}) Refusal → List Node → List Node → List Node → Type 0
 Adds answer before more after = MatchResult answer (λ _. after ≡ before ++ more) (λ why. (why ≡ TooManyRows) × (128 < length (before ++ more)))
 
+-- The same for whatever says that there is no room.
+abbrev pub Fills : {E : Type 0} → Result (Unit {0}) E → List Node → List Node → List Node → Type 0
+Fills answer before more after = MatchResult answer (λ _. after ≡ before ++ more) (λ _. 128 < length (before ++ more))
+
 -- What the root gives, cut by each span, and what each node gives, cut by one span.
 abbrev pub spans_rows : ℕ → List Span → List Node
 spans_rows height ss = flat_map (λ (s : Span). cut s.from s.to height 0) ss

@@ -1,11 +1,10 @@
 // Cutting a node by a span, on plain numbers: no seed is needed to know which nodes a cover has.
 ghost use Rattle.std.specs.Prelude.{◌≡◌, ◌+◌, ◌*◌, ◌^◌, ◌≤◌, length, take};
-ghost use Rattle.cover.specs.Cut.{cut as cut_rows, Adds};
+ghost use Rattle.cover.specs.Cut.{cut as cut_rows, Fills};
 ghost use Rattle.cover.specs.Listed.{listed};
 
-use crate::listing::NodeList;
+use crate::listing::{NoRoom, NodeList};
 use crate::node::{Node, Span};
-use refusal::Refusal;
 
 // The first key under a node.
 pub(crate) fn first_key(level: u32, index: u64) -> u64
@@ -18,10 +17,10 @@ pub(crate) fn first_key(level: u32, index: u64) -> u64
 
 // Adds the nodes that a node gives, where there is room for all. One that lies partly in the span gives those of its left half, then those
 // of its right half.
-pub(crate) fn cut(level: u32, index: u64, span: Span, rows: &mut NodeList) -> Result<(), Refusal>
+pub(crate) fn cut(level: u32, index: u64, span: Span, rows: &mut NodeList) -> Result<(), NoRoom>
     requires low { level ≤ 32 }
     requires inside { (index + 1) * 2 ^ level ≤ 2 ^ 32 }
-    ensures added { Adds result (listed rows.old) (cut_rows span.from span.to level index) (listed rows.new) }
+    ensures added { Fills result (listed rows.old) (cut_rows span.from span.to level index) (listed rows.new) }
     ensures kept { take (length (listed rows.old)) (listed rows.new) ≡ listed rows.old }
 {
     let first = first_key(level, index);

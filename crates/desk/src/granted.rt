@@ -3,14 +3,13 @@ use crate::saying::{say_answer, say_open};
 use cipher::{Aes128, Block, Cipher, Speck128};
 use cover::Span;
 use grant::{Grant, KeyTree, issue, narrow};
-use group::{Count, Group, Moments};
+use group::{Count, Group, Moments, Printed};
 use sealing::Running;
-use std::fmt::Display;
 use store::FlatStore;
 
 // Seals seven equal lines with the keys of a tree under the cipher, and opens them through a grant.
 // The cells come from the caller, since no proof says that seven figures of an unknown size fit in memory.
-fn panel<G: Group + Display, C: Cipher>(
+fn panel<G: Printed, C: Cipher>(
     rt: &HostRuntime,
     line: G,
     cells: &mut [G; 7],

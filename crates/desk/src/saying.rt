@@ -1,13 +1,13 @@
 // What is said of an answer.
-use group::Group;
+use group::Printed;
 use refusal::Refusal;
 use sealing::open;
 use source::KeySource;
-use std::fmt::Display;
 use store::Store;
 
 // Opens lines a up to b with the reader's keys, and says what was answered.
-pub fn say_open<G: Group + Display, S: Store<G>, R: KeySource<G>>(
+// A refusal by `words`, which always gives the sentence; what `Display` states is of writes that succeed alone.
+pub fn say_open<G: Printed, S: Store<G>, R: KeySource<G>>(
     rt: &HostRuntime,
     who: &str,
     store: &S,
@@ -17,7 +17,11 @@ pub fn say_open<G: Group + Display, S: Store<G>, R: KeySource<G>>(
 ) -> anyhow::Result<()> {
     match open(store, reader, a, b) {
         Ok(sum) => println!(rt; "{who} opens {a} up to {b}: {sum}")?,
-        Err(e) => println!(rt; "{who} is refused {a} up to {b} ({}): {e}", e.number())?,
+        Err(e) => println!(rt;
+            "{who} is refused {a} up to {b} ({}): {}",
+            e.number(),
+            e.words()
+        )?,
     }
     Ok(())
 }
@@ -30,7 +34,7 @@ pub fn say_answer<T: Drop>(
 ) -> anyhow::Result<()> {
     match answer {
         Ok(_) => println!(rt; "{what}: answered")?,
-        Err(e) => println!(rt; "{what}: refused ({}), {e}", e.number())?,
+        Err(e) => println!(rt; "{what}: refused ({}), {}", e.number(), e.words())?,
     }
     Ok(())
 }

@@ -1,17 +1,16 @@
 // A week at each kind: lines are sealed, and sums are opened by the owner and by a reader with two keys.
 use crate::keys::{ends, key_word};
 use crate::saying::say_open;
-use group::{Count, Flags, Group, Moments};
+use group::{Count, Flags, Group, Moments, Printed};
 use sealing::{Running, is_double};
 use source::KeyList;
 use std::array::from_fn;
-use std::fmt::Display;
 use store::{FlatStore, Store};
 use tree_store::{Plan, TreeStore};
 
 // Seals the lines under the keys, and opens the whole, a part and nothing; the reader has the two keys at the ends. Keys and
 // lines are arguments apart, since readers have keys alone.
-fn play<G: Group + Display, S: Store<G>>(
+fn play<G: Printed, S: Store<G>>(
     rt: &HostRuntime,
     store: &mut S,
     keys: &[G; 8],
@@ -35,7 +34,7 @@ fn play<G: Group + Display, S: Store<G>>(
 
 // The week in a flat store, and once more in a tree that keeps sums of two.
 // The cells come from the caller, since no proof says that so many figures of an unknown size fit in memory.
-fn both_stores<G: Group + Display>(
+fn both_stores<G: Printed>(
     rt: &HostRuntime,
     keys: &[G; 8],
     lines: &[G; 7],

@@ -1,4 +1,4 @@
--- Lists made from a function of each element. Assumes nothing.
+-- Lists made from a function of each element, or from no element. Assumes nothing.
 use Rattle.std.proofs.Common.{◌≡◌, ℕ, ◌+◌, ◌-◌, ◌<◌, List, [], ◌∷◌, ◌++◌, map, length, get_or, take, drop, set, replicate, sym, refl, ap, ◌∙◌, ⊎_elim, arith}
 use mathlib.Core.List.Memᴰ
 use mathlib.Core.List.{Memᴰ}
@@ -25,3 +25,7 @@ behind_one {X} xs i x d e =
     ∙ ap (drop 1) e
     ∙ drop-replicate 1 (128 - i) d
     ∙ ap (λ (k : ℕ). replicate k d) (let q : 128 - i - 1 ≡ 128 - (i + 1) = omega arith in q)
+
+-- what was added to an empty list is all of it
+pub from_empty : {X : Type 0} {before after more : List X} → before ≡ [] → after ≡ before ++ more → after ≡ more
+from_empty {X} {more = more} e h = h ∙ ap (λ (xs : List X). xs ++ more) e

@@ -1,5 +1,5 @@
 -- The row over a key. Assumes nothing.
-use Rattle.std.proofs.Common.{◌≡◌, ℕ, zero, suc, ◌+◌, ◌*◌, ◌/◌, ◌^◌, ◌<◌, ◌≤◌, Bool, true, false, cond, ltb, leb, List, [], ◌∷◌, map, length, get_or, take, Some, ◌≢◌, sym, refl, ap, ◌∙◌, subst, arith, pow_pos}
+use Rattle.std.proofs.Common.{◌≡◌, ℕ, zero, suc, ◌+◌, ◌*◌, ◌/◌, ◌%◌, ◌^◌, ◌<◌, ◌≤◌, Bool, true, false, cond, ltb, leb, List, [], ◌∷◌, map, length, get_or, take, Option, Some, ◌≢◌, sym, refl, ap, ◌∙◌, subst, arith, pow_pos}
 use mathlib.Core.List.Memᴰ
 use mathlib.Core.List.{Memᴰ}
 use native.Mathlib.Nat.{div-eq_of_lt-le}
@@ -16,7 +16,6 @@ use Rattle.cover.proofs.Sound.{sound-cover}
 use Rattle.grant.specs.declared.grant.row.Row.{Row}
 use Rattle.grant.specs.Rows.{zero_row, node_of, sound_rows}
 use Rattle.grant.specs.Grants.{row_over}
-use Rattle.grant.specs.Filling.{over}
 
 pub member_at : {X : Type 0} (xs : List X) (i : ℕ) (d : X) → i < length xs → Memᴰ (get_or xs i d) xs
 member_at [] i d h = absurd (omega arith)
@@ -52,13 +51,19 @@ stands_is n k =
     (λ (h : (eqb (k / 2 ^ n.level) n.index ≡ false) × (k / 2 ^ n.level ≢ n.index)). h.0 ∙ sym (stands-not n k h.1))
     (eqb_tells (k / 2 ^ n.level) n.index)
 
--- among rows that are not above the highest level, the first over the key is found
-pub find_over : (rs : List Row) (k : ℕ) → ((r : Row) → Memᴰ r rs → r.level ≤ 32) → find (over k) rs ≡ row_over rs k
+-- The test of a search: a shift by a level that takes the level by 64, as the wrapping one does.
+abbrev pub meets : ℕ → Row → Bool
+meets k r = eqb (k / 2 ^ (r.level % 64)) r.index
+
+-- among rows that are not above the highest level, where no shift wraps, the first over the key is found
+pub find_over : (rs : List Row) (k : ℕ) → ((r : Row) → Memᴰ r rs → r.level ≤ 32) → find (meets k) rs ≡ row_over rs k
 find_over [] k low = refl
 find_over (r ∷ rs) k low =
     let here = low r (Memᴰ.head refl) in
+    let plain : r.level % 64 ≡ r.level = omega (arith, here) in
+    let is : meets k r ≡ stands (node_of r) k = ap (λ (l : ℕ). eqb (k / 2 ^ l) r.index) plain ∙ stands_is (node_of r) k in
     let there = find_over rs k (λ x m. low x (Memᴰ.tail m)) in
-    grind (arith, nat_tests)
+    ap (λ (b : Bool). cond b (Some r) (find (meets k) rs)) is ∙ ap (λ (o : Option Row). cond (stands (node_of r) k) (Some r) o) there
 
 pub under_member : (rs : List Row) (k : ℕ) (r : Row) → row_over rs k ≡ Some r → Memᴰ r rs × (stands (node_of r) k ≡ true)
 under_member [] k r e = let z : ◌≡◌ {A = ℕ} 0 1 = cc in absurd (omega arith)

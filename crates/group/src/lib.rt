@@ -6,11 +6,13 @@ ghost use Rattle.group.specs.Kind.{Kind};
 
 mod folding;
 mod modular;
+mod printing;
 mod tally;
 mod xor;
 
 pub use folding::fold;
 pub use modular::Count;
+pub use printing::Printed;
 pub use tally::Moments;
 pub use xor::Flags;
 

@@ -5,7 +5,7 @@
 #[cfg(test)]
 mod tests {
     use clients::two_listed;
-    use group::{Count, Flags, Group, Moments};
+    use group::{Count, Flags, Group, Moments, Printed};
     use refusal::Refusal;
     use sealing::{Running, is_double, open};
     use source::{KeyList, KeyPair};
@@ -126,6 +126,21 @@ mod tests {
         assert_eq!(rt; sum.count, 2);
         assert_eq!(rt; sum.sum, 2147483650);
         assert_eq!(rt; sum.squares, 4611686014132420618);
+        Ok(())
+    }
+
+    #[test]
+    fn texts(rt: HostRuntime) -> Result<(), Fail> {
+        let heap = rt.alloc();
+        assert_eq!(rt; Count::from(7).text(heap)?.as_str(), "7");
+        assert_eq!(rt; less(2).text(heap)?.as_str(), "-2");
+        assert_eq!(rt; Flags { bits: 5 }.text(heap)?.as_str(), "5");
+        let parcels = Moments {
+            count: 2,
+            sum: 7,
+            squares: 25,
+        };
+        assert_eq!(rt; parcels.text(heap)?.as_str(), "2 parcels, 7 g, squares 25");
         Ok(())
     }
 

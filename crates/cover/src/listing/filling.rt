@@ -1,11 +1,11 @@
 // Filling a list of nodes.
 ghost use Rattle.std.specs.Prelude.{◌≡◌, ◌≤◌, [], ◌∷◌, ◌++◌, length, take};
 ghost use Rattle.refusal.specs.Judged.{judged, left_by};
-ghost use Rattle.cover.specs.Cut.{cut as cut_rows, cut_rules, Adds, CutsCover, CutsNarrow};
+ghost use Rattle.cover.specs.Cut.{cut as cut_rows, cut_rules, Fills, CutsCover, CutsNarrow};
 ghost use Rattle.cover.specs.Listed.{listed};
 ghost use Rattle.cover.specs.Tree.{CoverIsOne, NoRowsNoKeys};
 
-use super::NodeList;
+use super::{NoRoom, NodeList};
 use crate::cutting::cut;
 use crate::height::Height;
 use crate::next::is_in_tree;
@@ -32,11 +32,11 @@ impl NodeList {
     }
 
     // Adds a node, where there is room.
-    pub(crate) fn push(&mut self, node: Node) -> Result<(), Refusal>
-        ensures added { Adds result (listed self.old) (node ∷ []) (listed self.new) }
+    pub(crate) fn push(&mut self, node: Node) -> Result<(), NoRoom>
+        ensures added { Fills result (listed self.old) (node ∷ []) (listed self.new) }
         ensures kept { take (length (listed self.old)) (listed self.new) ≡ listed self.old }
     {
-        self.nodes.try_push(node).map_err(|_| Refusal::TooManyRows)
+        self.nodes.try_push(node).map_err(|_| NoRoom)
     }
 
     // Adds the nodes that a node gives, cut by the span. Cut so, a tree gives the cover of any spaced spans, and a cover that of what a span
@@ -53,9 +53,9 @@ impl NodeList {
             return Err(Refusal::RowPlace);
         }
         let count = self.nodes.len();
-        if let Err(why) = cut(node.level, node.index, span, self) {
+        if let Err(NoRoom) = cut(node.level, node.index, span, self) {
             self.nodes.truncate(count);
-            return Err(why);
+            return Err(Refusal::TooManyRows);
         }
         Ok(())
     }

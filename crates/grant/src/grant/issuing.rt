@@ -1,8 +1,8 @@
 // Issuing a grant.
 ghost use Rattle.std.specs.Prelude.{◌≡◌, length, replicate};
 ghost use Rattle.cover.specs.Tree.{CoverIsOne};
-ghost use Rattle.cover.specs.Cut.{spans_rows};
-ghost use Rattle.cover.specs.Listed.{Lists};
+ghost use Rattle.cover.specs.Cut.{spans_rows, Adds};
+ghost use Rattle.cover.specs.Listed.{listed};
 ghost use Rattle.grant.specs.Calls.{Issues};
 ghost use Rattle.grant.specs.Histories.{Continues, issued};
 
@@ -36,11 +36,11 @@ impl<C: Cipher> SeedSource for KeyTree<C> {
 }
 
 impl<C> KeyTree<C> {
-    // The nodes of the spans, one span after the other, where there is room for all.
-    fn cut_spans(&self, spans: &[Span]) -> Result<NodeList, Refusal>
-        ensures { Lists result (spans_rows self.now.height.levels spans.now) }
+    // Adds the nodes of the spans, one span after the other, where there is room for all. The list is lent, since one that stood in the
+    // answer would be copied on its way out.
+    fn cut_spans(&self, spans: &[Span], nodes: &mut NodeList) -> Result<(), Refusal>
+        ensures { Adds result (listed nodes.old) (spans_rows self.now.height.levels spans.now) (listed nodes.new) }
     {
-        let mut nodes = NodeList::new();
         let root = Node {
             level: self.height.levels(),
             index: 0,
@@ -48,7 +48,7 @@ impl<C> KeyTree<C> {
         for span in spans {
             nodes.cut(root, *span)?;
         }
-        Ok(nodes)
+        Ok(())
     }
 }
 
@@ -73,7 +73,8 @@ fn issue_with<C: Cipher>(
         return Err(Refusal::TooManySpans);
     }
     check_spans(tree.height, spans)?;
-    let list = tree.cut_spans(spans)?;
+    let mut list = NodeList::new();
+    tree.cut_spans(spans, &mut list)?;
     let nodes = list.as_slice();
     seed_rows(tree, nodes, path, &mut grant.rows);
     grant.height = tree.height;

@@ -1,8 +1,8 @@
 // Narrowing a grant.
 ghost use Rattle.std.specs.Prelude.{◌≡◌, length, replicate};
 ghost use Rattle.cover.specs.Tree.{CoverIsOne, NoRowsNoKeys};
-ghost use Rattle.cover.specs.Cut.{left_rows};
-ghost use Rattle.cover.specs.Listed.{Lists};
+ghost use Rattle.cover.specs.Cut.{left_rows, Adds};
+ghost use Rattle.cover.specs.Listed.{listed};
 ghost use Rattle.grant.specs.Grants.{nodes_of};
 ghost use Rattle.grant.specs.Calls.{Narrows};
 ghost use Rattle.grant.specs.Histories.{Continues, narrowed};
@@ -35,15 +35,15 @@ impl<C: Cipher> SeedSource for Grant<C> {
 }
 
 impl<C> Grant<C> {
-    // The nodes that the span leaves of each row, where there is room for all. An issue cuts one node by many spans, this many by one.
-    fn cut_rows(&self, span: Span) -> Result<NodeList, Refusal>
-        ensures { Lists result (left_rows span (nodes_of self.now)) }
+    // Adds the nodes that the span leaves of each row, where there is room for all. An issue cuts one node by many spans, this many by
+    // one. The list is lent, as in an issue.
+    fn cut_rows(&self, span: Span, nodes: &mut NodeList) -> Result<(), Refusal>
+        ensures { Adds result (listed nodes.old) (left_rows span (nodes_of self.now)) (listed nodes.new) }
     {
-        let mut nodes = NodeList::new();
         for row in self.rows() {
             nodes.cut(row.node(), span)?;
         }
-        Ok(nodes)
+        Ok(())
     }
 }
 
@@ -60,7 +60,8 @@ fn narrow_with<C: Cipher>(
         return Err(Refusal::ShortScratch);
     };
     check_span(grant.height, span)?;
-    let list = grant.cut_rows(span)?;
+    let mut list = NodeList::new();
+    grant.cut_rows(span, &mut list)?;
     let nodes = list.as_slice();
     if nodes.is_empty() {
         return Err(Refusal::NothingLeft);

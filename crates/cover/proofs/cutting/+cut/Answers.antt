@@ -23,7 +23,7 @@ returns-in_err-cut-clause-added t c =
     let before = listed c.args.rows.now in
     let h = cut-partly s.from s.to c.args.level c.args.index (omega arith) (omega arith) (λ p q. omega (arith, c.else-span-first-2.either)) in
     let w = c.in_err-cut.ensures.added in
-    rw (passed_on c.from_residual.ensures.1) (w.0, step_left s.from s.to c.args.level c.args.index before h w.1)
+    rw (passed_on c.from_residual.ensures.1) (step_left s.from s.to c.args.level c.args.index before h w)
 
 pub cut-requires-2 : goal.cut-requires-2
 cut-requires-2 t c =

@@ -1,4 +1,4 @@
-use Rattle.std.proofs.Common.{ℕ, Err, length, take, refl, sym, ap, ◌∙◌, arith}
+use Rattle.std.proofs.Common.{ℕ, length, take, refl, sym, ap, ◌∙◌, arith}
 use Rattle.cover.specs.Cut.{CutsCover, CutsNarrow}
 use Rattle.cover.specs.Listed.{listed}
 use Rattle.cover.specs.Tree.{CoverIsOne, NoRowsNoKeys}
@@ -24,7 +24,7 @@ cut-requires c =
 pub returns-in-Err : goal.returns-in-Err
 returns-in-Err c =
     with_covers
-    (ap Err c.in-Err.ensures.added.0 ∙ no_room c.args.node _ (placed_tree c.args.node (sym c.if-not-is_in_tree.ensures)) c.in-Err.ensures.added.1)
+    (no_room c.args.node _ (placed_tree c.args.node (sym c.if-not-is_in_tree.ensures)) c.in-Err.ensures.added)
     (c.truncate.ensures.items ∙ ap (λ (k : ℕ). take k (listed c.cut.new.rows)) c.len-count.ensures.value ∙ c.in-Err.ensures.kept)
 
 pub returns : goal.returns
